@@ -34,7 +34,7 @@ all_two : (xs ys : List Made) → AllDone xs → AllDone ys → AllDone (xs ++ y
 all_two [] ys h k = k
 all_two (x ∷ xs) ys (h, more) k = (h, all_two xs ys more k)
 
-each_done : (cs : List Call) → AllDone (map done cs)
+pub each_done : (cs : List Call) → AllDone (map done cs)
 each_done [] = tt
 each_done (c ∷ cs) = (refl, each_done cs)
 

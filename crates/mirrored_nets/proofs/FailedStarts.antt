@@ -140,7 +140,7 @@ module _ (starts : StartsAreEvents) (bases : ExamplesAreNodeBases) (nets : Serve
   crashed : Crashes told_of i T.site g.site l files sites ws
   crashed = record { left = left; on = on; goes = goes_so i g.site sites }
 
-  before_is : T.before ≡ last_incarnation p.records
+  pub before_is : T.before ≡ last_incarnation p.records
   before_is =
       last_of apart shrinks T.before old p.records (reads (opening_in old.device) (calls_in old.device)) T.was refl
       (crashes.between (example_hosts count) M.stands.net sites i p (reads (opening_in old.device) (calls_in old.device)) runs at_p

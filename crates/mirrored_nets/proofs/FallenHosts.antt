@@ -18,15 +18,15 @@ use Rattle.memory_net.proofs.Going.{are, letters_last, small}
 use Rattle.memory_net.proofs.Standing.{alone_where, comes_on, mails_join, placed_at, placed_other, placed_this}
 use Rattle.mirrored_nets.specs.Mirrors.{AreOfTwo, Mirrors}
 use Rattle.mirrored_nets.specs.Took.{FellBack}
-use Rattle.mirrored_nets.proofs.Remirrored.{remirror}
+use Rattle.mirrored_nets.proofs.Remirrored.{remirror_to}
 use Rattle.node_at.specs.State.{seen}
 use Rattle.node_at.specs.TurnText.{TurnStep}
 use Rattle.node_at.specs.declared.node.Node.{Node}
-use Rattle.node_events.specs.NodeEvents.{IsAt, Leads}
+use Rattle.node_events.specs.NodeEvents.{IsAt, Leads, MovesOne}
 use Rattle.node_worlds.specs.Acts.{IsUp}
 use Rattle.node_worlds.specs.Crashes.{CrashesAreMet}
 use Rattle.node_worlds.specs.Machines.{IsLeft, IsOn}
-use Rattle.node_worlds.specs.Nets.{Place, as_far, broken, posts_from}
+use Rattle.node_worlds.specs.Nets.{IsWorldOf, Place, as_far, broken, posts_from}
 use Rattle.node_worlds.specs.Restarts.{RestartsOnRecords}
 use Rattle.node_worlds.specs.SentPosts.{recorded}
 use Rattle.node_worlds.proofs.Machines.{all_fit}
@@ -123,14 +123,15 @@ module _ (L : NetLaws) (count : ℕ) (few : count ≤ 8) (hosts : List Host) (cl
         clock = M.clocks_are i c x time known;
       }
 
-  pub fallen : (front : List TurnStep) (posts : List Post) (sent : List Call)
+  -- the net behind these steps, as the world is then
+  pub fallen_to : (front : List TurnStep) (posts : List Post) (sent : List Call)
       (serves : Serves told_of (example_hosts count) (broken (example_hosts count) i M.stands.net hold.place (seen n) front posts) (placed_at i g.site sites))
       → AsksOf closed told_of (example_hosts count) (broken (example_hosts count) i M.stands.net hold.place (seen n) front posts) (placed_at i g.site sites) serves
-      → AreLetters posts (posts_in sent) → more ≡ mails ++ mails_in i count sent → (now : ℕ) (e : WorldEvent)
-      → Leads (example_hosts count) i now w e (broken (example_hosts count) i M.stands.net hold.place (seen n) front posts) → g.node ≡ None → AreOfTwo (hold.place.records ++ recorded front) g.site
-      → Mirrors count (put_nth i g hosts) (put_nth i now clocks) more (world_step w e)
-  fallen front posts sent serves asks letters posted now e leads down two =
-      remirror count hosts clocks mails more w M i h g here c now time in_world.node in_world.known e (broken (example_hosts count) i M.stands.net hold.place (seen n) front posts)
+      → AreLetters posts (posts_in sent) → more ≡ mails ++ mails_in i count sent → (now : ℕ) (v : World)
+      → IsWorldOf (example_hosts count) (broken (example_hosts count) i M.stands.net hold.place (seen n) front posts) v → MovesOne i now w v → g.node ≡ None → AreOfTwo (hold.place.records ++ recorded front) g.site
+      → Mirrors count (put_nth i g hosts) (put_nth i now clocks) more v
+  fallen_to front posts sent serves asks letters posted now v world moves down two =
+      remirror_to count hosts clocks mails more w M i h g here c now time in_world.node in_world.known v (broken (example_hosts count) i M.stands.net hold.place (seen n) front posts)
       (placed_at i g.site sites) serves asks hold.place (record { node = None; records = hold.place.records ++ recorded front }) hold.here
       (put_put i M.stands.net.places (record { node = Some (as_far (seen n) front); records = hold.place.records ++ recorded front }) (record { node = None; records = hold.place.records ++ recorded front }))
       (sym (ap (option_map seen) down)) (subst (λ o. IfSome o IsServing) (sym down) tt) (placed_this i g.site sites)
@@ -139,7 +140,17 @@ module _ (L : NetLaws) (count : ℕ) (few : count ≤ 8) (hosts : List Host) (cl
       (mails_join M.stands.net.posted (posts_from (example_hosts count) i posts) mails (mails_in i count sent) M.stands.letters
       (letters_last L.tell L.bases L.closes L.nets L.crashes L.calls L.images count few i M.stands.net.posted posts sent letters
       (L.closes count (broken (example_hosts count) i M.stands.net hold.place (seen n) front posts) (placed_at i g.site sites) (small L.tell L.bases L.closes L.nets L.crashes L.calls L.images count few) serves asks).posted)))
-      (λ m f. absurd (nobody m (sym down ∙ f))) leads (λ none. two)
+      (λ m f. absurd (nobody m (sym down ∙ f))) world moves (λ none. two)
     where
       nobody : (m : Node) → None ≡ Some m → ⊥
       nobody m f = cc
+
+  -- as an event leads
+  pub fallen : (front : List TurnStep) (posts : List Post) (sent : List Call)
+      (serves : Serves told_of (example_hosts count) (broken (example_hosts count) i M.stands.net hold.place (seen n) front posts) (placed_at i g.site sites))
+      → AsksOf closed told_of (example_hosts count) (broken (example_hosts count) i M.stands.net hold.place (seen n) front posts) (placed_at i g.site sites) serves
+      → AreLetters posts (posts_in sent) → more ≡ mails ++ mails_in i count sent → (now : ℕ) (e : WorldEvent)
+      → Leads (example_hosts count) i now w e (broken (example_hosts count) i M.stands.net hold.place (seen n) front posts) → g.node ≡ None → AreOfTwo (hold.place.records ++ recorded front) g.site
+      → Mirrors count (put_nth i g hosts) (put_nth i now clocks) more (world_step w e)
+  fallen front posts sent serves asks letters posted now e leads down two =
+      fallen_to front posts sent serves asks letters posted now (world_step w e) leads.world leads.moves down two

@@ -52,31 +52,31 @@ module _ (L : NetLaws) (K : TurnLaws) (torn : AppendsTorn) (asks : RequestsAreEv
     (i c : ℕ) (h g : Host) (n : Node) (request : Local) (old : MemSite) (fates : List Bool) (until : Option ℕ) (few : count ≤ 8) (M : Mirrors count hosts clocks mails w) (least : 1 ≤ i)
     (here : nth i hosts ≡ Some h) (up : h.node ≡ Some n) (time : nth i clocks ≡ Some c) (named : IsExampleRequest request) (set : IsSet c h.site old)
     (T : TookRequest i count request n old g mails more fates until) where
-  abbrev before : IsBefore h old
+  abbrev pub before : IsBefore h old
   before = record { opening = set.opening; calls = set.calls }
 
-  abbrev there : InWorld L count few hosts clocks mails more w M i h g n here up c time old before
+  abbrev pub there : InWorld L count few hosts clocks mails more w M i h g n here up c time old before
   there = in_world L count few hosts clocks mails more w M i h g n here up c time old before
 
-  abbrev from : MemSite
+  abbrev pub from : MemSite
   from = asked_sites L ask_so count few hosts clocks mails more w M i h g n here up c time old before T.node T.site T.answer request named i
 
-  same_site : from ≡ old
+  pub same_site : from ≡ old
   same_site = at_this L count few hosts clocks mails more w M i h g n here up c time old before
 
-  abbrev old_records : List Record
+  abbrev pub old_records : List Record
   old_records = asked_records L ask_so count few hosts clocks mails more w M i h g n here up c time old before T.node T.site T.answer request named
 
-  abbrev is_up_there : IsUp old_records (seen n) (told_of old)
+  abbrev pub is_up_there : IsUp old_records (seen n) (told_of old)
   is_up_there = up_there L count few hosts clocks mails more w M i h g n here up c time old before
 
-  requests : Requests told_of T.answer (seen n) (seen T.node) request from T.site
+  pub requests : Requests told_of T.answer (seen n) (seen T.node) request from T.site
   requests = record {
     asked = subst (λ z. Asked T.answer (seen n) (seen T.node) request (told_of z) (told_of T.site)) (sym same_site) T.requests.asked;
     nothing = λ why e. T.requests.nothing why e ∙ sym same_site;
   }
 
-  adds : calls_in T.site.device ≡ calls_in old.device ++ T.made
+  pub adds : calls_in T.site.device ≡ calls_in old.device ++ T.made
   adds =
       let did = request_did L.bodies L.grows told_of old_records T.answer (seen n) (seen T.node) request from T.site (subst (λ z. IsUp old_records (seen n) (told_of z)) (sym same_site) is_up_there) requests in
       since_then old old T.site T.made did.made refl T.adds.calls
@@ -84,36 +84,36 @@ module _ (L : NetLaws) (K : TurnLaws) (torn : AppendsTorn) (asks : RequestsAreEv
 
   -- where it was done
   module _ (id : Numbers) (D : Asked (answers.Done id) (seen n) (seen T.node) request (told_of from) (told_of T.site)) where
-    abbrev its_step : TurnStep
+    abbrev pub its_step : TurnStep
     its_step = step_done (seen n) (seen T.node) request D.3.0 D.3.1 from T.site D.3.3
 
-    abbrev its_doing : Doing
+    abbrev pub its_doing : Doing
     its_doing = doing_done (seen n) (seen T.node) request D.3.0 D.3.1 from T.site D.3.3
 
-    is_now : IsStep n.book (events.Local request) there.node.clock its_step
+    pub is_now : IsStep n.book (events.Local request) there.node.clock its_step
     is_now =
         subst (λ k. IsStep n.book (events.Local request) k its_step) (D.3.2 from.clock refl ∙ ap (λ (z : MemSite). z.clock) same_site ∙ set.clock ∙ sym there.clock)
         (is_step (seen n) (seen T.node) request D.3.0 D.3.1 from T.site D.3.3)
 
-    is_ask : IsAsk (example_hosts count) M.stands.net w i (M.stands.holds i h here).place there.node (seen n) (seen T.node) request its_step its_doing
+    pub is_ask : IsAsk (example_hosts count) M.stands.net w i (M.stands.holds i h here).place there.node (seen n) (seen T.node) request its_step its_doing
     is_ask =
         asks.whole (example_hosts count) M.stands.net w i (M.stands.holds i h here).place there.node (seen n) (seen T.node) request its_step its_doing there.is_at is_now
         (is_doing (seen n) (seen T.node) request D.3.0 D.3.1 from T.site D.3.3)
         (fate_landed (plan n.book (events.Local request) D.3.0).entry D.3.3.landed n.journal D.3.3.went.first (told_of from) (told_of T.site) D.3.3.went.fate) D.3.3.went.book D.3.3.went.effects
 
-    read : (R : Read n.journal [] T.made its_step [] its_doing []) × (R.anew ≡ [])
+    pub read : (R : Read n.journal [] T.made its_step [] its_doing []) × (R.anew ≡ [])
     read =
         request_read (seen n) (seen T.node) request D.3.0 D.3.1 from T.site D.3.3 L.bodies old T.made is_up_there.holds.bodies same_site T.room
         (keeps L K count few hosts clocks mails more w M i least h g n here up c time old before) (M.limits i h n here up) T.adds
 
-    have : HaveCalls is_ask.fated
+    pub have : HaveCalls is_ask.fated
     have =
         planned_calls K.addressed K.reply K.pass K.place (example_base i) (owned L K count few hosts clocks mails more w M i least h g n here up c time) (plan n.book (events.Local request) there.node.clock)
         is_ask.fated
         (local_called K.addressed K.reply K.pass K.place (example_base i) (owned L K count few hosts clocks mails more w M i least h g n here up c time) n.book request there.node.clock
         (fits L K count few hosts clocks mails more w M i least h g n here up c time old before) (ask_so request named).0) is_ask.planned
 
-    abbrev steps_read : StepsRead n.journal [] T.made (its_step ∷ []) (its_doing ∷ []) (is_ask.fated ∷ [])
+    abbrev pub steps_read : StepsRead n.journal [] T.made (its_step ∷ []) (its_doing ∷ []) (is_ask.fated ∷ [])
     steps_read = record {
       s = its_step;
       ss = [];
@@ -132,13 +132,13 @@ module _ (L : NetLaws) (K : TurnLaws) (torn : AppendsTorn) (asks : RequestsAreEv
 
   -- at a stop
   module _ (moves : ChangesByMoves) (kept : ℕ) (choice : Choice) (came : T.came ≡ cames.Falls kept choice) where
-    ends : AnswersSo (cames.Falls kept choice) T.answer
+    pub ends : AnswersSo (cames.Falls kept choice) T.answer
     ends = subst (λ z. AnswersSo z T.answer) came T.ends
 
-    left : LeftSo (cames.Falls kept choice) T.node old T.site g
+    pub left : LeftSo (cames.Falls kept choice) T.node old T.site g
     left = subst (λ z. LeftSo z T.node old T.site g) came T.left
 
-    comes : ComesTo (cames.Falls kept choice) 0 T.made fates until
+    pub comes : ComesTo (cames.Falls kept choice) 0 T.made fates until
     comes = subst (λ z. ComesTo z 0 T.made fates until) came T.comes
 
     posted : more ≡ mails ++ mails_in i count (sent_by (take kept T.made))
@@ -160,7 +160,7 @@ module _ (L : NetLaws) (K : TurnLaws) (torn : AppendsTorn) (asks : RequestsAreEv
         (calls_so n.journal 0 [] T.made (its_step id D ∷ []) (its_doing id D ∷ []) ((is_ask id D).fated ∷ []) r comes.0 (inl (refl, refl)) D.3.3.went.formed landed)
         (fates_so n.journal 0 [] T.made (its_step id D ∷ []) (its_doing id D ∷ []) ((is_ask id D).fated ∷ []) r comes.0 (inl (refl, refl)) ∙ ap length (append-nil _)) fates until S
 
-    none_made : T.site ≡ old → T.made ≡ []
+    pub none_made : T.site ≡ old → T.made ≡ []
     none_made same =
         T.adds.calls ∙ ap (λ (z : MemSite). drop (length (calls_in old.device)) (calls_in z.device)) same ∙ ap (drop (length (calls_in old.device))) (sym (append-nil (calls_in old.device)))
         ∙ drop-append_seam (calls_in old.device) []
@@ -179,13 +179,13 @@ module _ (L : NetLaws) (K : TurnLaws) (torn : AppendsTorn) (asks : RequestsAreEv
 
   -- where it halted
   module _ (came : T.came ≡ cames.Halts) where
-    halted : T.answer ≡ answers.Halted
+    pub halted : T.answer ≡ answers.Halted
     halted = subst (λ z. AnswersSo z T.answer) came T.ends
 
-    halt_left : LeftSo cames.Halts T.node old T.site g
+    pub halt_left : LeftSo cames.Halts T.node old T.site g
     halt_left = subst (λ z. LeftSo z T.node old T.site g) came T.left
 
-    halt_comes : ComesTo cames.Halts 0 T.made fates until
+    pub halt_comes : ComesTo cames.Halts 0 T.made fates until
     halt_comes = subst (λ z. ComesTo z 0 T.made fates until) came T.comes
 
     halt_posted : more ≡ mails ++ mails_in i count (sent_by (take (length T.made) T.made))

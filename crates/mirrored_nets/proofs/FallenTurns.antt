@@ -62,19 +62,19 @@ module _ (L : NetLaws) (K : TurnLaws) (torn : AppendsTorn) (count : ℕ) (hosts 
     (lines : ℕ) (bytes : List ℕ) (old : MemSite) (fates : List Bool) (until : Option ℕ) (few : count ≤ 8) (M : Mirrors count hosts clocks mails w) (least : 1 ≤ i) (here : nth i hosts ≡ Some h)
     (up : h.node ≡ Some n) (time : nth i clocks ≡ Some c) (brought : IsBrought mails i input lines bytes) (set : IsSet (c + ms_of input) h.site old)
     (T : TookTurn i count lines bytes n old g mails more fates until) where
-  abbrev before : IsBefore h T.turns.connected
+  abbrev pub before : IsBefore h T.turns.connected
   before = before_turn L K count few hosts clocks mails more w M i least h g n here up c time input lines bytes old fates until brought set T
 
-  abbrev there : InWorld L count few hosts clocks mails more w M i h g n here up c time T.turns.connected before
+  abbrev pub there : InWorld L count few hosts clocks mails more w M i h g n here up c time T.turns.connected before
   there = in_world L count few hosts clocks mails more w M i h g n here up c time T.turns.connected before
 
-  abbrev from : MemSite
+  abbrev pub from : MemSite
   from = at_sites L count few hosts clocks mails more w M i h g n here up c time T.turns.connected before T.node T.site T.result i
 
-  same_site : from ≡ T.turns.connected
+  pub same_site : from ≡ T.turns.connected
   same_site = at_this L count few hosts clocks mails more w M i h g n here up c time T.turns.connected before
 
-  abbrev turn : TakesTurn told_of T.result All T.node.shrunk (seen n) (seen T.node) from T.site
+  abbrev pub turn : TakesTurn told_of T.result All T.node.shrunk (seen n) (seen T.node) from T.site
   turn = turn_there L K count few hosts clocks mails more w M i least h g n here up c time input lines bytes old fates until brought set T
 
   old_calls : calls_in T.turns.connected.device ≡ calls_in old.device
@@ -86,7 +86,7 @@ module _ (L : NetLaws) (K : TurnLaws) (torn : AppendsTorn) (count : ℕ) (hosts 
   up_now : IsUp old_records (seen n) (told_of from)
   up_now = subst (λ z. IsUp old_records (seen n) (told_of z)) (sym same_site) (up_there L count few hosts clocks mails more w M i h g n here up c time T.turns.connected before)
 
-  adds : calls_in T.site.device ≡ calls_in T.turns.connected.device ++ T.made
+  pub adds : calls_in T.site.device ≡ calls_in T.turns.connected.device ++ T.made
   adds =
       let did = turn_did L.bodies L.grows told_of old_records T.result All T.node.shrunk (seen n) (seen T.node) from T.site up_now turn in
       since_then old T.turns.connected T.site T.made did.made old_calls T.adds.calls
@@ -94,19 +94,19 @@ module _ (L : NetLaws) (K : TurnLaws) (torn : AppendsTorn) (count : ℕ) (hosts 
 
   -- at a stop
   module _ (stops : StopsAreEvents) (unbegun : UnbegunAreEvents) (kept : ℕ) (choice : Choice) (came : T.came ≡ cames.Falls kept choice) where
-    whole : IsWhole T.result
+    pub whole : IsWhole T.result
     whole = subst (λ z. EndsSo z T.result) came T.ends
 
-    left : LeftSo (cames.Falls kept choice) T.node old T.site g
+    pub left : LeftSo (cames.Falls kept choice) T.node old T.site g
     left = subst (λ z. LeftSo z T.node old T.site g) came T.left
 
-    comes : ComesTo (cames.Falls kept choice) lines T.made fates until
+    pub comes : ComesTo (cames.Falls kept choice) lines T.made fates until
     comes = subst (λ z. ComesTo z lines T.made fates until) came T.comes
 
     posted : more ≡ mails ++ mails_in i count (sent_by (take kept T.made))
     posted = T.posted ∙ ap (λ z. mails ++ mails_in i count (sent_by (take (kept_of z T.made) T.made))) came
 
-    abbrev H : HeardTurn count w M.stands.net i c (M.stands.holds i h here).place there.node n T.node from T.site T.result turn input lines T.made
+    abbrev pub H : HeardTurn count w M.stands.net i c (M.stands.holds i h here).place there.node n T.node from T.site T.result turn input lines T.made
     H = took_heard L K count few hosts clocks mails more w M i least h g n here up c time input lines bytes old fates until brought set T whole
 
     all_landed : AllByRecursion IsLanded H.is_turn.fated
@@ -124,11 +124,11 @@ module _ (L : NetLaws) (K : TurnLaws) (torn : AppendsTorn) (count : ℕ) (hosts 
     landed_here : AllByRecursion IsLanded (H.read.f ∷ H.read.fs)
     landed_here = subst (λ fs. AllByRecursion IsLanded fs) H.read.fated_are all_landed
 
-    all_left : AllLeft H.is_turn.fated
+    pub all_left : AllLeft H.is_turn.fated
     all_left =
         subst AllLeft (sym H.read.fated_are) (left_so n.journal lines H.did.line T.made H.did.whole.steps H.did.whole.doings H.is_turn.fated H.read comes.0 H.line_is landed_here)
 
-    are_calls : AreCallsOf n.journal lines T.made H.did.whole.steps H.did.whole.doings
+    pub are_calls : AreCallsOf n.journal lines T.made H.did.whole.steps H.did.whole.doings
     are_calls =
         subst (λ z. AreCallsOf n.journal lines T.made z H.did.whole.doings) (sym H.read.steps_are)
         (subst (λ z. AreCallsOf n.journal lines T.made (H.read.s ∷ H.read.ss) z) (sym H.read.doings_are)
@@ -150,36 +150,36 @@ module _ (L : NetLaws) (K : TurnLaws) (torn : AppendsTorn) (count : ℕ) (hosts 
 
   -- where it halted
   module _ (halts_lead : HaltsAreEvents) (came : T.came ≡ cames.Halts) where
-    halted : T.result ≡ turneds.Halted
+    pub halted : T.result ≡ turneds.Halted
     halted = subst (λ z. EndsSo z T.result) came T.ends
 
-    halt_left : LeftSo cames.Halts T.node old T.site g
+    pub halt_left : LeftSo cames.Halts T.node old T.site g
     halt_left = subst (λ z. LeftSo z T.node old T.site g) came T.left
 
-    halt_comes : ComesTo cames.Halts lines T.made fates until
+    pub halt_comes : ComesTo cames.Halts lines T.made fates until
     halt_comes = subst (λ z. ComesTo z lines T.made fates until) came T.comes
 
     halt_posted : more ≡ mails ++ mails_in i count (sent_by (take (length T.made) T.made))
     halt_posted = T.posted ∙ ap (λ z. mails ++ mails_in i count (sent_by (take (kept_of z T.made) T.made))) came
 
-    abbrev halt : TakesTurn told_of turneds.Halted All T.node.shrunk (seen n) (seen T.node) from T.site
+    abbrev pub halt : TakesTurn told_of turneds.Halted All T.node.shrunk (seen n) (seen T.node) from T.site
     halt = subst (λ r. TakesTurn told_of r All T.node.shrunk (seen n) (seen T.node) from T.site) halted turn
 
     adds_here : calls_in T.site.device ≡ calls_in from.device ++ T.made
     adds_here = adds ∙ ap (λ (z : MemSite). calls_in z.device ++ T.made) (sym same_site)
 
-    did : DidHalt halt.first (seen n) halt.node from halt.behind halt.steps × (T.site ≡ halt.behind)
+    pub did : DidHalt halt.first (seen n) halt.node from halt.behind halt.steps × (T.site ≡ halt.behind)
     did =
         did_halt lines (few_lines mails i input lines bytes brought) T.made T.tried fates until halt_comes (seen n) up_now.runs up_now.holds.sure from T.site adds_here halt.first T.node.shrunk halt.node (seen T.node) halt.behind
         halt.steps halt.ends
 
-    abbrev W : DidHalt halt.first (seen n) halt.node from halt.behind halt.steps
+    abbrev pub W : DidHalt halt.first (seen n) halt.node from halt.behind halt.steps
     W = did.0
 
     tells : next_input (told_of from).link ≡ Some bytes
     tells = ap (λ (z : MemSite). next_input (told_of z).link) same_site ∙ ap (λ l. next_input (Some l)) T.turns.connects.brings
 
-    now_is : W.now ≡ c + ms_of input
+    pub now_is : W.now ≡ c + ms_of input
     now_is = W.clock from.clock refl ∙ ap (λ (z : MemSite). z.clock) same_site ∙ ap (λ (z : MemSite). z.clock) T.turns.connects.others ∙ set.clock
 
     heard_so : is_heard W.meaning ≡ true
@@ -190,15 +190,15 @@ module _ (L : NetLaws) (K : TurnLaws) (torn : AppendsTorn) (count : ℕ) (hosts 
         let (x, known, stands) = M.world.nodes i (M.stands.holds i h here).place (M.stands.holds i h here).here in
         ap (λ (z : Known). z.base) (same_some there.node x (sym there.known ∙ known)) ∙ stands.base
 
-    heard : IsInput w i there.node input W.meaning W.now
+    pub heard : IsInput w i there.node input W.meaning W.now
     heard =
         input_heard K.says K.quiet K.ticks K.one K.wait_or_not K.small L.bases L.nets L.closes count few hosts clocks mails w M i least c there.node time there.known base_is input lines bytes W.meaning W.now
         brought (means_so bytes W.meaning heard_so (subst (λ o. Hears All o W.meaning) tells W.heard)) now_is
 
-    made_is : T.made ≡ W.line ++ W.halts.first
+    pub made_is : T.made ≡ W.line ++ W.halts.first
     made_is = halt_made halt.first (seen n) halt.node from halt.behind halt.steps W T.turns.connected T.site T.made same_site did.1 adds
 
-    line_is : IsTriedLine lines W.line
+    pub line_is : IsTriedLine lines W.line
     line_is =
         line_told K.says K.quiet K.ticks K.one K.wait_or_not K.small L.bases L.nets L.closes count few hosts clocks mails w M i least input lines bytes (told_of from) (told_of halt.behind) W.line W.halts.first T.made
         brought (subst (λ b. IsLine (Some bytes) b (told_of from) (told_of halt.behind) W.line) heard_so (subst (λ o. IsLine o (is_heard W.meaning) (told_of from) (told_of halt.behind) W.line) tells W.is_line))

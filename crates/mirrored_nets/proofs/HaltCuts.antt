@@ -49,11 +49,11 @@ gate_on_disk : (j : Journal) (body : List ℕ) (k : ℕ) → (k ≡ 3) ⊎ (k �
 gate_on_disk j body k (inl e) = subst (λ z. AreOnDisk (up_to z false (append_calls j body))) (sym e) (refl, (refl, (refl, tt)))
 gate_on_disk j body k (inr e) = subst (λ z. AreOnDisk (up_to z false (append_calls j body))) (sym e) (refl, (refl, (refl, (refl, tt))))
 
-stands_so : (k : ℕ) (stands : Bool) → ((k ≡ 3) × (stands ≡ false)) ⊎ ((k ≡ 4) × (stands ≡ true)) → nat_eq k 4 ≡ stands
+pub stands_so : (k : ℕ) (stands : Bool) → ((k ≡ 3) × (stands ≡ false)) ⊎ ((k ≡ 4) × (stands ≡ true)) → nat_eq k 4 ≡ stands
 stands_so k stands (inl (e, f)) = ap (λ z. nat_eq z 4) e ∙ sym f
 stands_so k stands (inr (e, f)) = ap (λ z. nat_eq z 4) e ∙ sym f
 
-front_recorded : (stands : Bool) (step : TurnStep) (r : Record) → step.entry ≡ Some r → step.landed ≡ true → recorded (front_by stands step) ≡ records_if stands (r ∷ [])
+pub front_recorded : (stands : Bool) (step : TurnStep) (r : Record) → step.entry ≡ Some r → step.landed ≡ true → recorded (front_by stands step) ≡ records_if stands (r ∷ [])
 front_recorded true step r entry landed = λ i. records_by (if_landed (landed i) (entry i)) ++ []
 front_recorded false step r entry landed = refl
 

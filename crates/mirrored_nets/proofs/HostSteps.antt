@@ -12,6 +12,7 @@ use Rattle.memory_net.specs.declared.host.Host.{Host}
 use Rattle.at_base.specs.declared.event.Local.{Local}
 use Rattle.node_at.specs.declared.local.Locally.{Locally}
 use Rattle.node_at.specs.declared.node.Node.{Node}
+use Rattle.node_at.specs.declared.shrink.Shrunk.TheVariants.{NoMemory}
 use Rattle.node_at.specs.declared.turn.Turned.{Turned}
 use Rattle.site_memory.specs.Devices.{calls_in}
 use Rattle.site_memory.specs.Entries.{made_of, mades}
@@ -23,9 +24,10 @@ use Rattle.mirrored_nets.specs.ArmedCalls.{choice_of}
 use Rattle.mirrored_nets.specs.Counted.{IsCounted}
 use Rattle.mirrored_nets.specs.Fates.{AllDone, AreAsked, failures, refusals}
 use Rattle.mirrored_nets.specs.Goings.{CameUp}
+use Rattle.mirrored_nets.specs.NetSteps.{IsCutBy, TookRequestBy, TookTurnBy}
 use Rattle.mirrored_nets.specs.Struck.{ComesAt, IsUnhalted}
 use Rattle.mirrored_nets.specs.StruckTurns.{Goes, halts, stays, stops, unbegun}
-use Rattle.mirrored_nets.specs.Took.{Adds, AnswersSo, ComesTo, EndsSo, HaltsSo, HasRoom, IsTriedLine, IsWhole, LeftSo, TookRequest, TookTurn, kept_of}
+use Rattle.mirrored_nets.specs.Took.{Adds, AnswersSo, ComesTo, EndsSo, HaltsSo, HasRoom, IsTriedLine, IsWhole, LeftSo, kept_of}
 use Rattle.mirrored_nets.specs.Unarmed.{IsntApart}
 use Rattle.mirrored_nets.specs.declared.came.Came.{Came}
 use Rattle.mirrored_nets.specs.declared.came.Came.TheVariants as cames
@@ -91,7 +93,7 @@ pub record CameSo (result : Result Came Unlike) (r : Turned) : Type 0 where
   pub is : result ≡ Ok came
   pub ends : EndsSo came r
 
-unhalted : (result : Result Came Unlike) (r : Turned) → IsWhole r → IsUnhalted result → CameSo result r
+pub unhalted : (result : Result Came Unlike) (r : Turned) → IsWhole r → IsUnhalted result → CameSo result r
 unhalted result r whole (came, is, goes) = record { came = came; is = is; ends = by came goes }
   where
     by : (z : Came) → (z ≡ cames.Halts → ⊥) → EndsSo z r
@@ -112,45 +114,52 @@ module _ (lines : ℕ) (made : List Made) (armed : Armed) (fates : List Bool) (u
 abbrev pub Posts : (i count : ℕ) → Came → List Entry → List Entry → List Mail → List Mail → Type 0
 Posts i count came calls kept mails more = (mades kept ≡ take (kept_of came (mades calls)) (mades calls)) × (more ≡ mails ++ mails_in i count (sent_by (mades kept)))
 
-posted_so : (i count : ℕ) (came : Came) (calls kept : List Entry) (mails more : List Mail) → Posts i count came calls kept mails more
+pub posted_so : (i count : ℕ) (came : Came) (calls kept : List Entry) (mails more : List Mail) → Posts i count came calls kept mails more
     → more ≡ mails ++ mails_in i count (sent_by (take (kept_of came (mades calls)) (mades calls)))
 posted_so i count came calls kept mails more (e, h) = h ∙ ap (λ ms. mails ++ mails_in i count (sent_by ms)) e
 
-pub took_turn : (i count lines before : ℕ) (bytes : List ℕ) (n m : Node) (old site : MemSite) (new : Host) (mails more : List Mail) (fates : List Bool) (until : Option ℕ) (result : Turned) (came : Came) (calls kept : List Entry)
+pub took_turn : (armed : Armed) (i count lines before : ℕ) (bytes : List ℕ) (n m : Node) (old site : MemSite) (new : Host) (mails more : List Mail) (fates : List Bool) (until : Option ℕ) (result : Turned) (came : Came) (calls kept : List Entry)
     → HasRoom old → Turns bytes result n m old site → before ≡ length (calls_in old.device) → Adds (mades calls) old site → EndsSo came result → ComesTo came lines (mades calls) fates until
     → ((z : MemSite) → before ≡ length (calls_in z.device) → LeftSo came m z site new) → Posts i count came calls kept mails more
-    → IsTriedLine lines (take lines (mades calls)) → TookTurn i count lines bytes n old new mails more fates until
-took_turn i count lines before bytes n m old site new mails more fates until result came calls kept room turns since adds ends comes left posts tried = record {
-  room = room;
-  result = result;
-  node = m;
-  site = site;
-  turns = turns;
-  made = mades calls;
-  tried = tried;
-  adds = adds;
-  came = came;
-  ends = ends;
-  comes = comes;
-  left = left old since;
-  posted = posted_so i count came calls kept mails more posts;
-}
+    → IsTriedLine lines (take lines (mades calls)) → (m.shrunk ≡ NoMemory → ⊥) → IsCutBy armed came → TookTurnBy armed i count lines bytes n old new mails more fates until
+took_turn armed i count lines before bytes n m old site new mails more fates until result came calls kept room turns since adds ends comes left posts tried remembers cut = (
+  record {
+    room = room;
+    result = result;
+    node = m;
+    site = site;
+    turns = turns;
+    made = mades calls;
+    tried = tried;
+    adds = adds;
+    came = came;
+    ends = ends;
+    comes = comes;
+    left = left old since;
+    remembers = remembers;
+    posted = posted_so i count came calls kept mails more posts;
+  },
+  cut,
+)
 
-pub took_request : (i count before : ℕ) (request : Local) (n m : Node) (old site : MemSite) (new : Host) (mails more : List Mail) (fates : List Bool) (until : Option ℕ) (answer : Locally) (came : Came) (calls kept : List Entry)
+pub took_request : (armed : Armed) (i count before : ℕ) (request : Local) (n m : Node) (old site : MemSite) (new : Host) (mails more : List Mail) (fates : List Bool) (until : Option ℕ) (answer : Locally) (came : Came) (calls kept : List Entry)
     → HasRoom old → Requests request answer n m old site → before ≡ length (calls_in old.device) → Adds (mades calls) old site → AnswersSo came answer → ComesTo came 0 (mades calls) fates until
     → ((z : MemSite) → before ≡ length (calls_in z.device) → LeftSo came m z site new) → Posts i count came calls kept mails more
-    → TookRequest i count request n old new mails more fates until
-took_request i count before request n m old site new mails more fates until answer came calls kept room requests since adds ends comes left posts = record {
-  room = room;
-  answer = answer;
-  node = m;
-  site = site;
-  requests = requests;
-  made = mades calls;
-  adds = adds;
-  came = came;
-  ends = ends;
-  comes = comes;
-  left = left old since;
-  posted = posted_so i count came calls kept mails more posts;
-}
+    → IsCutBy armed came → TookRequestBy armed i count request n old new mails more fates until
+took_request armed i count before request n m old site new mails more fates until answer came calls kept room requests since adds ends comes left posts cut = (
+  record {
+    room = room;
+    answer = answer;
+    node = m;
+    site = site;
+    requests = requests;
+    made = mades calls;
+    adds = adds;
+    came = came;
+    ends = ends;
+    comes = comes;
+    left = left old since;
+    posted = posted_so i count came calls kept mails more posts;
+  },
+  cut,
+)

@@ -15,7 +15,7 @@ use Rattle.site_model.specs.Told.{Files}
 use Rattle.world_laws.proofs.NumberedItems.{nth_none}
 use Rattle.mirrored_nets.specs.Goings.{CameUp, IsBrought, IsNothing, IsSet, NetsMirror, WentDown, ms_of}
 use Rattle.mirrored_nets.specs.Mirrors.{AllServe, MayServe, Mirrors}
-use Rattle.mirrored_nets.specs.NetSteps.{IsGiven, MoveAnswers, MovesNode, NetMove, NetStep, StartsNode, StepAnswers}
+use Rattle.mirrored_nets.specs.NetSteps.{IsGiven, MoveAnswers, MovesNode, NetStep, StartsNode, StepAnswers, TookRequestBy, TookTurnBy}
 use Rattle.mirrored_nets.specs.Seen.{Seen}
 use Rattle.mirrored_nets.specs.Started.{Started}
 use Rattle.mirrored_nets.specs.Rooms.{HasRoomAt, IsFullAt}
@@ -24,6 +24,7 @@ use Rattle.mirrored_nets.specs.TookStart.{TookStart}
 use Rattle.mirrored_nets.specs.Unarmed.{IsntApart}
 use Rattle.mirrored_nets.specs.declared.fault.Unlike.{Unlike}
 use Rattle.mirrored_nets.specs.declared.fault.Unlike.TheVariants.{Apart}
+use Rattle.mirrored_nets.specs.declared.judged.Armed.{Armed}
 use Rattle.mirrored_nets.proofs.OpenedNets.{serve_put}
 
 -- whether the host of that number is up
@@ -54,7 +55,7 @@ down_node hosts i up h (x, at, is) here e =
 none_some : {A : Type 0} (x : A) → None ≡ Some x → ⊥
 none_some x e = cc
 
-numbered : {A : Type 0} (i : ℕ) (xs : List A) (x : A) → nth i xs ≡ Some x → 1 ≤ i
+pub numbered : {A : Type 0} (i : ℕ) (xs : List A) (x : A) → nth i xs ≡ Some x → 1 ≤ i
 numbered zero xs x here = absurd (none_some x (sym (nth_none xs) ∙ here))
 numbered (suc i) xs x here = omega arith
 
@@ -75,16 +76,16 @@ pub room_set : (i now : ℕ) (inside net : Seen) (h : Host) (site old : MemSite)
 room_set i now inside net h site old e room here same set =
     room_kept now site old set (subst HasRoom (sym same) (room h (subst (λ (s : Seen). nth i s.hosts ≡ Some h) e here)))
 
-pub rests_down : (raw : List ℕ) (net : Seen) (i : ℕ) (e : WorldEvent) (up : Bool) → node_of e ≡ i → IsUp net.hosts i up → up ≡ false → IsNothing e None → NetStep e raw net net
-rests_down raw net i e up at (h, here, is) down nothing = inr (record {
+pub rests_down : (armed : Armed) (raw : List ℕ) (net : Seen) (i : ℕ) (e : WorldEvent) (up : Bool) → node_of e ≡ i → IsUp net.hosts i up → up ≡ false → IsNothing e None → NetStep armed e raw net net
+rests_down armed raw net i e up at (h, here, is) down nothing = inr (record {
   host = h;
   here = ap (λ k. nth k net.hosts) at ∙ here;
   nothing = subst (IsNothing e) (sym (node_of_none h.node (sym is ∙ down))) nothing;
   same = refl;
 })
 
-pub rests_up : (net : Seen) (i : ℕ) (landed stop up : Bool) → IsUp net.hosts i up → up ≡ true → NetStep (Up i landed stop) [] net net
-rests_up net i landed stop up (h, here, is) here_up =
+pub rests_up : (armed : Armed) (net : Seen) (i : ℕ) (landed stop up : Bool) → IsUp net.hosts i up → up ≡ true → NetStep armed (Up i landed stop) [] net net
+rests_up armed net i landed stop up (h, here, is) here_up =
     let n = node_of_some h.node (sym is ∙ here_up) in
     inr (record { host = h; here = here; nothing = subst (IsNothing (Up i landed stop)) (sym n.1) tt; same = refl })
 
@@ -95,8 +96,8 @@ module _ (i : ℕ) (hosts new : List Host) (clocks : List ℕ) (letters : List L
   put : net_of new clocks letters ≡ net_of (put_nth i g hosts) clocks letters
   put = ap (λ (l : List Host). net_of l clocks letters) puts
 
-  pub crashes : (up : Bool) (site : MemSite) → IsUp hosts i up → up ≡ true → site ≡ h.site → WentDown site g → NetStep (Crash i) [] (net_of hosts clocks letters) (net_of new clocks letters)
-  crashes up site is e same down =
+  pub crashes : (armed : Armed) (up : Bool) (site : MemSite) → IsUp hosts i up → up ≡ true → site ≡ h.site → WentDown site g → NetStep armed (Crash i) [] (net_of hosts clocks letters) (net_of new clocks letters)
+  crashes armed up site is e same down =
       let n = up_node hosts i up h is here e in
       inl (record {
         host = h;
@@ -108,13 +109,14 @@ module _ (i : ℕ) (hosts new : List Host) (clocks : List ℕ) (letters : List L
         are = put;
       })
 
-  pub starts : (up landed stop : Bool) (c : ℕ) (site : MemSite) (base : List ℕ) → IsUp hosts i up → up ≡ false → nth i clocks ≡ Some c → base ≡ example_base i → site ≡ h.site → Started base c landed stop site g
-      → NetStep (Up i landed stop) [] (net_of hosts clocks letters) (net_of new clocks letters)
-  starts up landed stop c site base is e clock named same started =
+  pub starts : (armed : Armed) (up landed stop : Bool) (c : ℕ) (site : MemSite) (base : List ℕ) → IsUp hosts i up → up ≡ false → HasRoom h.site → nth i clocks ≡ Some c → base ≡ example_base i → site ≡ h.site → Started base c landed stop site g
+      → NetStep armed (Up i landed stop) [] (net_of hosts clocks letters) (net_of new clocks letters)
+  starts armed up landed stop c site base is e room clock named same started =
       inl (record {
         host = h;
         here = here;
         down = down_node hosts i up h is here e;
+        room = room;
         clock = c;
         time = clock;
         behind = g;
@@ -122,10 +124,10 @@ module _ (i : ℕ) (hosts new : List Host) (clocks : List ℕ) (letters : List L
         are = put;
       })
 
-  pub asks : (n : Node) (c many : ℕ) (request : Local) (site machine : MemSite) (more : List Letter) (fates : List Bool) (until : Option ℕ) → h.node ≡ Some n → nth i clocks ≡ Some c → many ≡ length hosts → IsExampleRequest request
-      → site ≡ h.site → IsSet c site machine → TookRequest i many request n machine g (map mail_of letters) (map mail_of more) fates until
-      → NetStep (Ask i request fates until) [] (net_of hosts clocks letters) (net_of new clocks more)
-  asks n c many request site machine more fates until up clock all named same set took =
+  pub asks : (armed : Armed) (n : Node) (c many : ℕ) (request : Local) (site machine : MemSite) (more : List Letter) (fates : List Bool) (until : Option ℕ) → h.node ≡ Some n → nth i clocks ≡ Some c → many ≡ length hosts → IsExampleRequest request
+      → site ≡ h.site → IsSet c site machine → TookRequestBy armed i many request n machine g (map mail_of letters) (map mail_of more) fates until
+      → NetStep armed (Ask i request fates until) [] (net_of hosts clocks letters) (net_of new clocks more)
+  asks armed n c many request site machine more fates until up clock all named same set took =
       inl (record {
         host = h;
         here = here;
@@ -137,16 +139,20 @@ module _ (i : ℕ) (hosts new : List Host) (clocks : List ℕ) (letters : List L
         machine = machine;
         set = subst (λ (s : MemSite). IsSet c s machine) same set;
         behind = g;
-        took = subst (λ k. TookRequest i k request n machine g (map mail_of letters) (map mail_of more) fates until) all took;
+        took = by.0;
+        cut = by.1;
         hosts = puts;
         clocks = refl;
       })
+    where
+      by : TookRequestBy armed i (length hosts) request n machine g (map mail_of letters) (map mail_of more) fates until
+      by = subst (λ k. TookRequestBy armed i k request n machine g (map mail_of letters) (map mail_of more) fates until) all took
 
-  pub turns : (n : Node) (c many now lines : ℕ) (input : Input) (bytes raw : List ℕ) (site machine : MemSite) (times : List ℕ) (more : List Letter) (fates : List Bool) (until : Option ℕ) → h.node ≡ Some n → nth i clocks ≡ Some c
+  pub turns : (armed : Armed) (n : Node) (c many now lines : ℕ) (input : Input) (bytes raw : List ℕ) (site machine : MemSite) (times : List ℕ) (more : List Letter) (fates : List Bool) (until : Option ℕ) → h.node ≡ Some n → nth i clocks ≡ Some c
       → many ≡ length hosts → IsBrought (map mail_of letters) i input lines bytes → IsGiven input raw bytes → now ≡ c + ms_of input → site ≡ h.site → IsSet now site machine
-      → TookTurn i many lines bytes n machine g (map mail_of letters) (map mail_of more) fates until → times ≡ put_nth i now clocks
-      → NetStep (Turn i input fates until) raw (net_of hosts clocks letters) (net_of new times more)
-  turns n c many now lines input bytes raw site machine times more fates until up clock all brought given later same set took ticks =
+      → TookTurnBy armed i many lines bytes n machine g (map mail_of letters) (map mail_of more) fates until → times ≡ put_nth i now clocks
+      → NetStep armed (Turn i input fates until) raw (net_of hosts clocks letters) (net_of new times more)
+  turns armed n c many now lines input bytes raw site machine times more fates until up clock all brought given later same set took ticks =
       inl (record {
         host = h;
         here = here;
@@ -161,17 +167,21 @@ module _ (i : ℕ) (hosts new : List Host) (clocks : List ℕ) (letters : List L
         machine = machine;
         set = subst (λ (s : MemSite). IsSet (c + ms_of input) s machine) same (subst (λ k. IsSet k site machine) later set);
         behind = g;
-        took = subst (λ k. TookTurn i k lines bytes n machine g (map mail_of letters) (map mail_of more) fates until) all took;
+        took = by.0;
+        cut = by.1;
         hosts = puts;
         clocks = ticks ∙ ap (λ k. put_nth i k clocks) later;
       })
+    where
+      by : TookTurnBy armed i (length hosts) lines bytes n machine g (map mail_of letters) (map mail_of more) fates until
+      by = subst (λ k. TookTurnBy armed i k lines bytes n machine g (map mail_of letters) (map mail_of more) fates until) all took
 
 module _ (mirror : NetsMirror) (old new : Seen) (count : ℕ) (w : World) (few : count ≤ 8) (mirrors : Mirrors count old.hosts old.clocks (map mail_of old.letters) w) where
   -- the next net, seen so, mirrors that world
   seen_as : (v : World) (net : Seen) → new ≡ net → Mirrors count net.hosts net.clocks (map mail_of net.letters) v → Mirrors count new.hosts new.clocks (map mail_of new.letters) v
   seen_as v net e m = subst (λ (s : Seen). Mirrors count s.hosts s.clocks (map mail_of s.letters) v) (sym e) m
 
-  of_parts : (v : World) (hosts : List Host) (clocks : List ℕ) → new.hosts ≡ hosts → new.clocks ≡ clocks → Mirrors count hosts clocks (map mail_of new.letters) v → Mirrors count new.hosts new.clocks (map mail_of new.letters) v
+  pub of_parts : (v : World) (hosts : List Host) (clocks : List ℕ) → new.hosts ≡ hosts → new.clocks ≡ clocks → Mirrors count hosts clocks (map mail_of new.letters) v → Mirrors count new.hosts new.clocks (map mail_of new.letters) v
   of_parts v hosts clocks puts ticks m =
       subst (λ (l : List Host). Mirrors count l new.clocks (map mail_of new.letters) v) (sym puts) (subst (λ (z : List ℕ). Mirrors count hosts z (map mail_of new.letters) v) (sym ticks) m)
 
@@ -188,56 +198,52 @@ module _ (mirror : NetsMirror) (old new : Seen) (count : ℕ) (w : World) (few :
       by machine set (inr (stops, took)) =
           mirror.upped_not count old.hosts old.clocks (map mail_of old.letters) w i s.clock s.host s.behind machine landed stop few mirrors (numbered i old.hosts s.host s.here) s.here s.down set took stops
 
-  moved : (e : WorldEvent) (raw : List ℕ) → MovesNode e raw old new → Mirrors count new.hosts new.clocks (map mail_of new.letters) (world_step w e)
-  moved (Turn i input fates until) raw s =
+  moved : (armed : Armed) (e : WorldEvent) (raw : List ℕ) → MovesNode armed e raw old new → Mirrors count new.hosts new.clocks (map mail_of new.letters) (world_step w e)
+  moved armed (Turn i input fates until) raw s =
       of_parts (world_step w (Turn i input fates until)) (put_nth i s.behind old.hosts) (put_nth i (s.clock + ms_of input) old.clocks) s.hosts s.clocks
       (mirror.turned count old.hosts old.clocks (map mail_of old.letters) (map mail_of new.letters) w i s.clock s.host s.behind s.node input s.lines s.bytes s.machine fates until few mirrors (numbered i old.hosts s.host s.here) s.here
       s.up s.time s.brought s.set (subst (λ k. TookTurn i k s.lines s.bytes s.node s.machine s.behind (map mail_of old.letters) (map mail_of new.letters) fates until) mirrors.many s.took))
-  moved (Ask i request fates until) raw s =
+  moved armed (Ask i request fates until) raw s =
       of_parts (world_step w (Ask i request fates until)) (put_nth i s.behind old.hosts) old.clocks s.hosts s.clocks
       (mirror.asked count old.hosts old.clocks (map mail_of old.letters) (map mail_of new.letters) w i s.clock s.host s.behind s.node request s.machine fates until few mirrors (numbered i old.hosts s.host s.here) s.here
       s.up s.time s.named s.set (subst (λ k. TookRequest i k request s.node s.machine s.behind (map mail_of old.letters) (map mail_of new.letters) fates until) mirrors.many s.took))
-  moved (Crash i) raw s =
+  moved armed (Crash i) raw s =
       seen_as (world_step w (Crash i)) (record old { hosts = put_nth i s.behind old.hosts }) s.are
       (mirror.downed count old.hosts old.clocks (map mail_of old.letters) w i s.host s.behind s.node few mirrors (numbered i old.hosts s.host s.here) s.here s.up s.went)
-  moved (Up i landed stop) raw s =
+  moved armed (Up i landed stop) raw s =
       seen_as (world_step w (Up i landed stop)) (record old { hosts = put_nth i s.behind old.hosts }) s.are (begun_by i landed stop s)
 
-  mirrored : (e : WorldEvent) (raw : List ℕ) → NetStep e raw old new → Mirrors count new.hosts new.clocks (map mail_of new.letters) (world_step w e)
-  mirrored e raw (inl s) = moved e raw s
-  mirrored e raw (inr r) = seen_as (world_step w e) old r.same (mirror.unmoved count old.hosts old.clocks (map mail_of old.letters) w e r.host mirrors r.here r.nothing)
+  pub mirrored : (armed : Armed) (e : WorldEvent) (raw : List ℕ) → NetStep armed e raw old new → Mirrors count new.hosts new.clocks (map mail_of new.letters) (world_step w e)
+  mirrored armed e raw (inl s) = moved armed e raw s
+  mirrored armed e raw (inr r) = seen_as (world_step w e) old r.same (mirror.unmoved count old.hosts old.clocks (map mail_of old.letters) w e r.host mirrors r.here r.nothing)
 
   -- with as many nodes as it has hosts
-  same_few : length old.hosts ≤ 8
+  pub same_few : length old.hosts ≤ 8
   same_few = subst (λ n. n ≤ 8) (sym mirrors.many) few
 
-  same_mirrors : Mirrors (length old.hosts) old.hosts old.clocks (map mail_of old.letters) w
+  pub same_mirrors : Mirrors (length old.hosts) old.hosts old.clocks (map mail_of old.letters) w
   same_mirrors = subst (λ n. Mirrors n old.hosts old.clocks (map mail_of old.letters) w) (sym mirrors.many) mirrors
 
-  move_answers : (e : WorldEvent) (raw : List ℕ) (s : MovesNode e raw old new) → MoveAnswers w e raw old new s
-  move_answers (Turn i input fates until) raw s = λ stays. (
+  move_answers : (armed : Armed) (e : WorldEvent) (raw : List ℕ) (s : MovesNode armed e raw old new) → MoveAnswers w armed e raw old new s
+  move_answers armed (Turn i input fates until) raw s = λ stays. (
     mirror.answered (length old.hosts) old.hosts old.clocks (map mail_of old.letters) (map mail_of new.letters) w i s.clock s.host s.behind s.node input s.lines s.bytes s.machine fates until same_few same_mirrors
         (numbered i old.hosts s.host s.here) s.here s.up s.time s.brought s.set s.took stays,
     mirror.turned_effects (length old.hosts) old.hosts old.clocks (map mail_of old.letters) (map mail_of new.letters) w i s.clock s.host s.behind s.node input s.lines s.bytes s.machine fates until same_few
         same_mirrors (numbered i old.hosts s.host s.here) s.here s.up s.time s.brought s.set s.took stays,
   )
-  move_answers (Ask i request fates until) raw s =
+  move_answers armed (Ask i request fates until) raw s =
       mirror.asked_effects (length old.hosts) old.hosts old.clocks (map mail_of old.letters) (map mail_of new.letters) w i s.clock s.host s.behind s.node request s.machine fates until same_few same_mirrors
       (numbered i old.hosts s.host s.here) s.here s.up s.time s.named s.set s.took
-  move_answers (Crash i) raw s = tt
-  move_answers (Up i landed stop) raw s = tt
+  move_answers armed (Crash i) raw s = tt
+  move_answers armed (Up i landed stop) raw s = tt
 
-  step_answers : (e : WorldEvent) (raw : List ℕ) (s : NetStep e raw old new) → StepAnswers w e raw old new s
-  step_answers e raw (inl s) = move_answers e raw s
-  step_answers e raw (inr r) = tt
-
-  -- whatever event of a world is done to a net that mirrors it
-  pub moves : (e : WorldEvent) (raw : List ℕ) → NetStep e raw old new → NetMove count w e raw old new
-  moves e raw step = record { step = step; answers = step_answers e raw step; mirrors = mirrored e raw step }
+  pub step_answers : (armed : Armed) (e : WorldEvent) (raw : List ℕ) (s : NetStep armed e raw old new) → StepAnswers w armed e raw old new s
+  step_answers armed e raw (inl s) = move_answers armed e raw s
+  step_answers armed e raw (inr r) = tt
 
 -- a net as its callers see it is one of these parts
-pub seen_by : (e : WorldEvent) (raw : List ℕ) (net next old : Seen) → old ≡ net → NetStep e raw old next → NetStep e raw net next
-seen_by e raw net next old is step = subst (λ (s : Seen). NetStep e raw s next) is step
+pub seen_by : (armed : Armed) (e : WorldEvent) (raw : List ℕ) (net next old : Seen) → old ≡ net → NetStep armed e raw old next → NetStep armed e raw net next
+seen_by armed e raw net next old is step = subst (λ (s : Seen). NetStep armed e raw s next) is step
 
 pub up_at : (hosts slice : List Host) (i : ℕ) (up : Bool) → slice ≡ hosts → IsUp slice i up → IsUp hosts i up
 up_at hosts slice i up e is = subst (λ (l : List Host). IsUp l i up) e is

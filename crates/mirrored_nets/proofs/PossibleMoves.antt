@@ -51,7 +51,7 @@ short_at k (n ∷ ms) m (short, all) found = by (short_at (k - 1) ms m all) (nat
     by later false f = later f
 
 module _ (net : Seen) (count : ℕ) (w : World) (few : count ≤ 8) (M : Mirrors count net.hosts net.clocks (map mail_of net.letters) w) where
-  numbered : (i : ℕ) → IsThere count i → IsNumbered net i
+  pub numbered : (i : ℕ) → IsThere count i → IsNumbered net i
   numbered i (least, most) = record { few = subst (λ k. k ≤ 8) (sym M.many) few; least = least; within = subst (λ k. i ≤ k) (sym M.many) most; times = M.times ∙ sym M.many }
 
   numbered_by : (e : WorldEvent) (raw : List ℕ) (a : Option Known) → IsPossible count w e raw a → IsNumbered net (node_of e)
@@ -60,7 +60,7 @@ module _ (net : Seen) (count : ℕ) (w : World) (few : count ≤ 8) (M : Mirrors
   numbered_by (Crash i) raw a is = numbered i is
   numbered_by (Up i landed stop) raw a (is, more) = numbered i is
 
-  comes : LettersAreShort → (i : ℕ) (input : Input) (raw : List ℕ) (lines : ℕ) → CanCome w i input raw lines → MayCome (map mail_of net.letters) i input raw
+  pub comes : LettersAreShort → (i : ℕ) (input : Input) (raw : List ℕ) (lines : ℕ) → CanCome w i input raw lines → MayCome (map mail_of net.letters) i input raw
   comes short i (Deliver k) raw lines (p, found, to, none) =
       let (m, at, mail) = letter_of k M.stands.net.posted (map mail_of net.letters) p M.stands.letters (ap (nth k) (sym M.world.posted) ∙ found) in (
         m,
@@ -71,7 +71,7 @@ module _ (net : Seen) (count : ℕ) (w : World) (few : count ≤ 8) (M : Mirrors
   comes short i (Tick ms) raw lines can = tt
   comes short i Raw raw lines (status, waits, draws, is) = (status, waits, draws)
 
-  fits : (i : ℕ) (input : Input) (raw : List ℕ) (lines : ℕ) → IsThere count i → CanCome w i input raw lines → FitsClock net.clocks i input
+  pub fits : (i : ℕ) (input : Input) (raw : List ℕ) (lines : ℕ) → IsThere count i → CanCome w i input raw lines → FitsClock net.clocks i input
   fits i (Deliver k) raw lines is can = tt
   fits i (Tick ms) raw lines (least, most) (can, none) = λ c at.
       let (x, found) = there i w.nodes least (subst (λ k. i ≤ k) (sym M.nodes) most) in
@@ -95,7 +95,7 @@ one_line true = refl
 one_line false = refl
 
 -- as many calls come before its first step as the world says
-same_lines : WaitOrNot → (w : World) (mails : List Mail) (i : ℕ) (input : Input) (raw bytes : List ℕ) (known lines : ℕ) → CanCome w i input raw known → IsBrought mails i input lines bytes → IsGiven input raw bytes
+pub same_lines : WaitOrNot → (w : World) (mails : List Mail) (i : ℕ) (input : Input) (raw bytes : List ℕ) (known lines : ℕ) → CanCome w i input raw known → IsBrought mails i input lines bytes → IsGiven input raw bytes
     → known ≡ lines
 same_lines law w mails i (Deliver k) raw bytes known lines (p, found, to, none) (m, at, goes, same, short, zero_lines) given = none ∙ sym zero_lines
 same_lines law w mails i (Tick ms) raw bytes known lines (can, none) (tick, zero_lines) given = none ∙ sym zero_lines

@@ -46,7 +46,7 @@ begins_kept : (base : List ℕ) (r : Result Node StartFault) (old new : MemSite)
 begins_kept base (Ok n) old new begins = ap (λ (k : Counts). k.arming) begins.0.counted.others
 begins_kept base (Err fault) old new begins = ap (λ (k : Counts). k.arming) begins.counted.others
 
-kept_told : (old new : MemSite) → (told_of new).counts.arming ≡ (told_of old).counts.arming → IsTold old → IsTold new
+pub kept_told : (old new : MemSite) → (told_of new).counts.arming ≡ (told_of old).counts.arming → IsTold old → IsTold new
 kept_told old new kept (arming, told) = (arming, kept ∙ told)
 
 pub started_serves : LinksHold → (base : List ℕ) (c : ℕ) (landed stop : Bool) (site : MemSite) (g : Host) → IsReady site → Started base c landed stop site g → MayServe g
@@ -58,13 +58,13 @@ started_serves law base c landed stop site g ready (old, set, inr (stops, took))
     (crashed_ready took.site g.site took.fell.left.arm took.fell.links
     (told_ready law took.site (kept_told old took.site (begins_kept base took.result old took.site took.begins) (set.told ready))).links)
 
-left_serves : LinksHold → (came : Came) (m : Node) (old t : MemSite) (g : Host) → LeftSo came m old t g → IsServing m → (came ≡ cames.Stays → m.halted ≡ false) → IsTold t → MayServe g
+pub left_serves : LinksHold → (came : Came) (m : Node) (old t : MemSite) (g : Host) → LeftSo came m old t g → IsServing m → (came ≡ cames.Stays → m.halted ≡ false) → IsTold t → MayServe g
 left_serves law cames.Stays m old t g left serves runs told = up_serves g m left.0 serves (runs refl) (subst IsReady (sym left.1) (told_ready law t told))
 left_serves law (cames.Falls kept choice) m old t g left serves runs told = off_serves g left.0 (crashed_ready t g.site left.1.left.arm left.1.links (told_ready law t told).links)
 left_serves law cames.Halts m old t g left serves runs told = off_serves g left.0 (crashed_ready t g.site left.1.arm left.2 (told_ready law t told).links)
 
 -- a node whose turn went to its end hasn't halted
-whole_runs : (first result : Turned) (shrunk : Shrunk) (n m : State) (old new : MemSite) → Ends told_of first result shrunk n m old new → IsWhole result → m.halted ≡ false
+pub whole_runs : (first result : Turned) (shrunk : Shrunk) (n m : State) (old new : MemSite) → Ends told_of first result shrunk n m old new → IsWhole result → m.halted ≡ false
 whole_runs (turneds.Served status) result shrunk n m old new e whole = by m.halted e.answers
   where
     by : (b : Bool) → result ≡ (if b then turneds.Halted else turneds.Served status) → b ≡ false

@@ -13,8 +13,8 @@ use Rattle.memory_net.proofs.Standing.{same_some}
 use Rattle.mirrored_nets.specs.Mirrors.{AreOfTwo, Mirrors}
 use Rattle.node_at.specs.State.{seen}
 use Rattle.node_at.specs.declared.node.Node.{Node}
-use Rattle.node_events.specs.NodeEvents.{Leads}
-use Rattle.node_worlds.specs.Nets.{Net, Place}
+use Rattle.node_events.specs.NodeEvents.{Leads, MovesOne}
+use Rattle.node_worlds.specs.Nets.{IsWorldOf, Net, Place}
 use Rattle.node_worlds.proofs.Places.{nth_other, nth_this}
 use Rattle.site_memory.specs.Sites.{told_of}
 use Rattle.site_memory.specs.declared.machine.MemSite.{MemSite}
@@ -74,11 +74,11 @@ same_length xs ys i x y here there others = omega (arith, no_longer xs ys down, 
         by (inr f) = sym (others n f) ∙ e
 
 module _ (count : ℕ) (hosts : List Host) (clocks : List ℕ) (mails more : List Mail) (w : World) (M : Mirrors count hosts clocks mails w) (i : ℕ) (h g : Host) (here : nth i hosts ≡ Some h)
-    (c now : ℕ) (time : nth i clocks ≡ Some c) (x : Known) (known : nth i w.nodes ≡ Some x) (e : WorldEvent) (net : Net) (sites : ℕ → MemSite) (serves : Serves told_of (example_hosts count) net sites)
+    (c now : ℕ) (time : nth i clocks ≡ Some c) (x : Known) (known : nth i w.nodes ≡ Some x) (v : World) (net : Net) (sites : ℕ → MemSite) (serves : Serves told_of (example_hosts count) net sites)
     (asks : AsksOf closed told_of (example_hosts count) net sites serves) (p q : Place) (at : nth i M.stands.net.places ≡ Some p) (placed : net.places ≡ put_nth i q M.stands.net.places)
     (node : q.node ≡ option_map seen g.node) (serving : IfSome g.node IsServing) (site : sites i ≡ g.site) (others : (j : ℕ) → (j ≡ i → ⊥) → sites j ≡ M.stands.sites j)
-    (letters : AreMailsOf net.posted more) (limit : (m : Node) → g.node ≡ Some m → m.journal.limit ≡ 4294967295) (leads : Leads (example_hosts count) i now w e net)
-    (two : g.node ≡ None → AreOfTwo q.records g.site) where
+    (letters : AreMailsOf net.posted more) (limit : (m : Node) → g.node ≡ Some m → m.journal.limit ≡ 4294967295) (world : IsWorldOf (example_hosts count) net v)
+    (moves : MovesOne i now w v) (two : g.node ≡ None → AreOfTwo q.records g.site) where
   this : Holds net sites i g
   this = record { place = q; here = ap (nth i) placed ∙ nth_this M.stands.net.places i p q at; node = node; site = site; serving = serving }
 
@@ -99,15 +99,15 @@ module _ (count : ℕ) (hosts : List Host) (clocks : List ℕ) (mails more : Lis
             serving = old.serving;
           }
 
-  told : (j d : ℕ) (y : Known) → nth j (put_nth i now clocks) ≡ Some d → nth j (world_step w e).nodes ≡ Some y → y.clock ≡ d
+  told : (j d : ℕ) (y : Known) → nth j (put_nth i now clocks) ≡ Some d → nth j v.nodes ≡ Some y → y.clock ≡ d
   told j d y f l = by (cases_eq j i)
     where
       by : (j ≡ i) ⊎ (j ≡ i → ⊥) → y.clock ≡ d
       by (inl k) =
           let time_is : now ≡ d = same_some now d (sym (nth_this clocks i c now time) ∙ ap (λ n. nth n (put_nth i now clocks)) (sym k) ∙ f) in
-          let node_is : leads.moves.node ≡ y = same_some leads.moves.node y (sym leads.moves.this ∙ ap (λ n. nth n (world_step w e).nodes) (sym k) ∙ l) in
-          ap (λ (z : Known). z.clock) (sym node_is) ∙ leads.moves.clock ∙ time_is
-      by (inr k) = M.clocks_are j d y (sym (nth_other clocks j i now k) ∙ f) (sym (leads.moves.others j k) ∙ l)
+          let node_is : moves.node ≡ y = same_some moves.node y (sym moves.this ∙ ap (λ n. nth n v.nodes) (sym k) ∙ l) in
+          ap (λ (z : Known). z.clock) (sym node_is) ∙ moves.clock ∙ time_is
+      by (inr k) = M.clocks_are j d y (sym (nth_other clocks j i now k) ∙ f) (sym (moves.others j k) ∙ l)
 
   bounded : (j : ℕ) (y : Host) (m : Node) → nth j (put_nth i g hosts) ≡ Some y → y.node ≡ Some m → m.journal.limit ≡ 4294967295
   bounded j y m f up = by (cases_eq j i)
@@ -128,15 +128,27 @@ module _ (count : ℕ) (hosts : List Host) (clocks : List ℕ) (mails more : Lis
           subst (λ (z : Host). AreOfTwo r.records z.site) same (subst (λ (z : Place). AreOfTwo z.records g.site) place (two (ap (λ (z : Host). z.node) same ∙ down)))
       by (inr k) = M.of_two j y r (sym (nth_other hosts j i g k) ∙ f) down (sym (nth_other M.stands.net.places j i q k) ∙ sym (ap (nth j) placed) ∙ l)
 
-  pub remirror : Mirrors count (put_nth i g hosts) (put_nth i now clocks) more (world_step w e)
-  remirror = record {
+  -- as the world does that the net is then
+  pub remirror_to : Mirrors count (put_nth i g hosts) (put_nth i now clocks) more v
+  remirror_to = record {
     many = length_put i g hosts ∙ M.many;
     stands = record { net = net; sites = sites; serves = serves; asks = asks; holds = held; letters = letters };
-    world = leads.world;
+    world = world;
     times = length_put i now clocks ∙ M.times;
-    nodes = same_length w.nodes (world_step w e).nodes i x leads.moves.node known leads.moves.this leads.moves.others ∙ M.nodes;
-    reach = λ to. leads.moves.reach to ∙ M.reach to;
+    nodes = same_length w.nodes v.nodes i x moves.node known moves.this moves.others ∙ M.nodes;
+    reach = λ to. moves.reach to ∙ M.reach to;
     clocks_are = told;
     limits = bounded;
     of_two = of_version;
   }
+
+-- as an event leads
+module _ (count : ℕ) (hosts : List Host) (clocks : List ℕ) (mails more : List Mail) (w : World) (M : Mirrors count hosts clocks mails w) (i : ℕ) (h g : Host) (here : nth i hosts ≡ Some h)
+    (c now : ℕ) (time : nth i clocks ≡ Some c) (x : Known) (known : nth i w.nodes ≡ Some x) (e : WorldEvent) (net : Net) (sites : ℕ → MemSite) (serves : Serves told_of (example_hosts count) net sites)
+    (asks : AsksOf closed told_of (example_hosts count) net sites serves) (p q : Place) (at : nth i M.stands.net.places ≡ Some p) (placed : net.places ≡ put_nth i q M.stands.net.places)
+    (node : q.node ≡ option_map seen g.node) (serving : IfSome g.node IsServing) (site : sites i ≡ g.site) (others : (j : ℕ) → (j ≡ i → ⊥) → sites j ≡ M.stands.sites j)
+    (letters : AreMailsOf net.posted more) (limit : (m : Node) → g.node ≡ Some m → m.journal.limit ≡ 4294967295) (leads : Leads (example_hosts count) i now w e net)
+    (two : g.node ≡ None → AreOfTwo q.records g.site) where
+  pub remirror : Mirrors count (put_nth i g hosts) (put_nth i now clocks) more (world_step w e)
+  remirror =
+      remirror_to count hosts clocks mails more w M i h g here c now time x known (world_step w e) net sites serves asks p q at placed node serving site others letters limit leads.world leads.moves two

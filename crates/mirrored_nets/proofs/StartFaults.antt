@@ -6,6 +6,7 @@ use Rattle.armed_calls.specs.Faults.{record_stands, start_calls}
 use Rattle.armed_calls.specs.declared.fault.Armed.{Armed as Known}
 use Rattle.armed_calls.specs.declared.fault.Fault.{Fault}
 use Rattle.armed_calls.specs.declared.fault.Fault.TheVariants as faults
+use Rattle.followed_files.specs.Starts.{MayBeStruck}
 use Rattle.journal_at.specs.declared.version.Version.TheVariants.{Two}
 use Rattle.memory_net.specs.Calls.{Begins}
 use Rattle.node_at.specs.declared.fault.StartFault.{StartFault}
@@ -130,3 +131,12 @@ kept_is kept other choice choose r e f =
 
 pub fell_same : {kept other : ℕ} {choice choose : Choice} {old t new : MemSite} → kept ≡ other → choice ≡ choose → FellBack old t kept choice new → FellBack old t other choose new
 fell_same {kept} {other} {choice} {choose} {old} {t} {new} same is F = subst (λ c. FellBack old t other c new) is (subst (λ k. FellBack old t k choice new) same F)
+
+-- a start that ended so was done, or the disk failed
+pub may_be_struck : (armed : Armed) (r : Result Node StartFault) → IsBegun armed r → MayBeStruck r
+may_be_struck armed (Ok n) h = tt
+may_be_struck armed (Err starts.NoMemory) h = absurd cc
+may_be_struck armed (Err starts.Disk) h = tt
+may_be_struck armed (Err (starts.Bad file place)) h = absurd cc
+may_be_struck armed (Err starts.Spent) h = absurd cc
+may_be_struck armed (Err starts.Full) h = absurd cc

@@ -61,14 +61,14 @@ module _ (come : CallsComing) (count : ℕ) (w : World) (net : Net) (i c : ℕ) 
   abbrev h : Heard w i x n.book input H.did.meaning H.did.now
   h = heard w i x n.book input H.did.meaning H.did.now H.heard
 
-  rows : R.f ∷ R.fs ≡ are.first ∷ are.rest
+  pub rows : R.f ∷ R.fs ≡ are.first ∷ are.rest
   rows = sym R.fated_are ∙ are.all
 
-  heads : R.f ≡ are.first
+  pub heads : R.f ≡ are.first
   heads = first_of_two R.f are.first R.fs are.rest rows
 
   -- all its calls were done but those by which its journal was written anew, and none of these
-  left_by : R.d.refused ≡ 0 → AllDone sends → AllLeft (are.first ∷ are.rest)
+  pub left_by : R.d.refused ≡ 0 → AllDone sends → AllLeft (are.first ∷ are.rest)
   left_by none_refused outs =
       subst AllLeft rows (all_leave n.journal H.did.line made H.did.whole.steps H.did.whole.doings H.is_turn.fated R outs (subst (λ fs. AllByRecursion IsLanded fs) (sym rows) (first, unrecorded_landed are.due.done are.rest are.due.are)))
     where
@@ -78,35 +78,35 @@ module _ (come : CallsComing) (count : ℕ) (w : World) (net : Net) (i c : ℕ) 
       first : IsLanded are.first
       first = subst (λ (z : Fated). IsLanded z) heads (first_lands n.journal H.did.line made H.did.whole.steps H.did.whole.doings H.is_turn.fated R none_refused sure)
 
-  whole_rows : AreWhole (are.first ∷ are.rest)
+  pub whole_rows : AreWhole (are.first ∷ are.rest)
   whole_rows = subst AreWhole rows (all_whole (R.s ∷ R.ss) (R.d ∷ R.ds) (R.f ∷ R.fs) R.fared)
 
   -- the first step has a record where the plan has one
-  entry_is : is_some h.begun.entry ≡ is_some R.s.entry
+  pub entry_is : is_some h.begun.entry ≡ is_some R.s.entry
   entry_is =
       ap is_some
       (sym (planned (example_hosts count) net w i p x (seen n) at input H.did.meaning H.did.now h [] None come H.is_turn.fated are).entry ∙ ap (λ (z : Fated). z.entry) (sym heads) ∙ R.fared.0.entry)
 
-  long : length H.did.line ≡ lines
+  pub long : length H.did.line ≡ lines
   long = line_long lines H.did.line H.line_is
 
   abbrev P : AreParts R.d.first sends R.read.anew
   P = parts n.journal H.did.line made R.s R.ss R.d R.ds R.read R.f R.fs R.fared R.have R.answered
 
-  behind_is : drop lines made ≡ R.d.first ++ (sends ++ R.read.anew)
+  pub behind_is : drop lines made ≡ R.d.first ++ (sends ++ R.read.anew)
   behind_is = ap (λ k. drop k made) (sym long) ∙ behind_line n.journal H.did.line made R.s R.ss R.d R.ds R.read R.f R.fs R.fared R.have
 
-  calls_fates : fates_in (drop lines made) ≡ record_fate R.d.first ++ map is_done sends
+  pub calls_fates : fates_in (drop lines made) ≡ record_fate R.d.first ++ map is_done sends
   calls_fates = ap (λ k. fates_in (drop k made)) (sym long) ∙ fates_of_calls n.journal H.did.line made R.s R.ss R.d R.ds R.read R.f R.fs R.fared R.have R.answered
 
-  anew_is : anew_of (drop lines made) ≡ R.read.anew
+  pub anew_is : anew_of (drop lines made) ≡ R.read.anew
   anew_is = ap (λ k. anew_of (drop k made)) (sym long) ∙ anew_behind n.journal H.did.line made R.s R.ss R.d R.ds R.read R.f R.fs R.fared R.have R.answered
 
-  refusals_so : refusals made ≡ refusals R.d.first + refusals R.read.anew
+  pub refusals_so : refusals made ≡ refusals R.d.first + refusals R.read.anew
   refusals_so = refusals_are n.journal H.did.line made R.s R.ss R.d R.ds R.read R.f R.fs R.fared
 
   -- how many fates its steps have
-  fates_count : length (all_fates (are.first ∷ are.rest)) ≡ length (record_fates R.s.entry R.f.landed) + length sends
+  pub fates_count : length (all_fates (are.first ∷ are.rest)) ≡ length (record_fates R.s.entry R.f.landed) + length sends
   fates_count =
       ap (λ fs. length (all_fates fs)) (sym rows)
       ∙ ap length (steps_fated n.journal H.did.line made R.s R.ss R.d R.ds R.read R.f R.fs R.fared R.have)

@@ -36,7 +36,7 @@ behind_four before (suc (suc (suc (suc zero)))) a b c d some (h, (k, (l, (m, mor
 behind_four before (suc (suc (suc (suc (suc k))))) a b c d some h = omega arith
 
 -- two calls of which one failed or wasn't tried
-few_broken : (file end : ℕ) (body : List ℕ) (disk : List Made) → BreaksOff (lay file end body) disk → length disk ≤ 2
+pub few_broken : (file end : ℕ) (body : List ℕ) (disk : List Made) → BreaksOff (lay file end body) disk → length disk ≤ 2
 few_broken file end body disk b = by b.is
   where
     split : 2 ≡ length b.front + suc (length b.rest)

@@ -129,15 +129,15 @@ done_sent (m ∷ ms) (is, all) = by (done_sent ms all) (is_disk m.call)
     by rest true = tt
     by rest false = (is, rest)
 
-yes_record : (ms : List Made) → AllDone ms → AllYes (record_fate ms)
+pub yes_record : (ms : List Made) → AllDone ms → AllYes (record_fate ms)
 yes_record [] all = tt
 yes_record (m ∷ ms) all = (all_test (m ∷ ms) all, tt)
 
-yes_each : (ms : List Made) → AllDone ms → AllYes (map is_done ms)
+pub yes_each : (ms : List Made) → AllDone ms → AllYes (map is_done ms)
 yes_each [] all = tt
 yes_each (m ∷ ms) (is, all) = (is, yes_each ms all)
 
-yes_join : (xs ys : List Bool) → AllYes xs → AllYes ys → AllYes (xs ++ ys)
+pub yes_join : (xs ys : List Bool) → AllYes xs → AllYes ys → AllYes (xs ++ ys)
 yes_join [] ys all more = more
 yes_join (x ∷ xs) ys (is, all) more = (is, yes_join xs ys all more)
 

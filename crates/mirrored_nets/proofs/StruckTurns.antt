@@ -56,7 +56,7 @@ use Rattle.mirrored_nets.proofs.ToldMachines.{armed_row, gates_stand}
 use Rattle.mirrored_nets.proofs.TriedLines.{line_long, line_sendings, none_behind_failed}
 use Rattle.mirrored_nets.proofs.TurnsTaken.{HeardTurn, TurnLaws, from as from_of, from_is, heard_turn}
 
-numbered : (since call : ℕ) → 1 ≤ call → call_number since call ≡ since + call
+pub numbered : (since call : ℕ) → 1 ≤ call → call_number since call ≡ since + call
 numbered since zero some = absurd (omega (arith, some))
 numbered since (suc call) some = refl
 

@@ -30,7 +30,7 @@ ended_left x v = at (is_over v.luck)
     at true = refl
     at false = refl
 
-is_until : (before : ℕ) (ends : Bool) → IsUntil before (if ends then Some (before + 1) else None)
+pub is_until : (before : ℕ) (ends : Bool) → IsUntil before (if ends then Some (before + 1) else None)
 is_until before true = inr refl
 is_until before false = inl refl
 
@@ -39,7 +39,7 @@ module _ (hosts : Hosts) (net : Net) (w : World) (i : ℕ) (p : Place) (x : Node
   abbrev event : WorldEvent
   event = Turn i input fates until
 
-  left_is : left_of w event ≡ (turned now h.begun (begin n.book x.journal (luck_of fates until))).luck
+  pub left_is : left_of w event ≡ (turned now h.begun (begin n.book x.journal (luck_of fates until))).luck
   unfolding moved_in
   left_is =
       ap (λ o. (moved_by event w.posted o).left) at.node

@@ -24,7 +24,7 @@ nothing_at (Crash n) (Some node) x w book h = absurd h
 nothing_at (Up n landed stop) None x w book h = absurd h
 nothing_at (Up n landed stop) (Some node) x w book h = ap (λ o. down_only o (start n landed stop x w) w) book
 
-stays : (e : WorldEvent) (node : Option Node) (x : Known) (w : World) → nth (node_of e) w.nodes ≡ Some x → x.book ≡ book_of node → IsNothing e node → world_step w e ≡ w
+pub stays : (e : WorldEvent) (node : Option Node) (x : Known) (w : World) → nth (node_of e) w.nodes ≡ Some x → x.book ≡ book_of node → IsNothing e node → world_step w e ≡ w
 unfolding world_step
 stays e node x w found book h = ap (λ o. at_some_node e o w) found ∙ nothing_at e node x w book h
 

@@ -93,7 +93,7 @@ module _ (count : ℕ) (hosts : List Host) (clocks : List ℕ) (mails : List Mai
       abbrev files : Files
       files = reads (opening_in (sites i).device) (calls_in (sites i).device)
 
-      begins : Starts (Ok U.node) (example_base i) All 4294967295 (told_of (sites i)) (told_of g.site)
+      pub begins : Starts (Ok U.node) (example_base i) All 4294967295 (told_of (sites i)) (told_of g.site)
       begins = subst (λ z. Starts (Ok U.node) (example_base i) All 4294967295 (told_of z) (told_of g.site)) (sym (placed_this i old M.stands.sites)) U.begins
 
       abbrev q : Place
@@ -107,7 +107,7 @@ module _ (count : ℕ) (hosts : List Host) (clocks : List ℕ) (mails : List Mai
           Serves.started M.stands.net sites i this.place (seen U.node) 4294967295 g.site files waits this.here is_down refl begins.0 (goes_so i g.site sites) refl
 
       -- it keeps what its records make
-      kept : kept_of Two (started begins.0.version begins.0.rs) ≡ kept_of Two q.records
+      pub kept : kept_of Two (started begins.0.version begins.0.rs) ≡ kept_of Two q.records
       kept =
           let runs : RunsOn told_of (example_hosts count) (with_started i M.stands.net this.place (seen U.node)) ws =
           RunsOn.started M.stands.net sites i this.place (seen U.node) 4294967295 g.site files (nets (example_hosts count) M.stands.net sites are waits).runs this.here is_down refl begins.0 (goes_so i g.site sites) refl in
@@ -115,10 +115,10 @@ module _ (count : ℕ) (hosts : List Host) (clocks : List ℕ) (mails : List Mai
           ∙ keep (example_hosts count) (with_started i M.stands.net this.place (seen U.node)) (machines (example_hosts count) (with_started i M.stands.net this.place (seen U.node)) ws runs) i q (seen U.node)
           (nth_this M.stands.net.places i this.place q this.here) refl
 
-      book : (seen U.node).book ≡ recover (example_base i) q.records
+      pub book : (seen U.node).book ≡ recover (example_base i) q.records
       book = begins.0.book ∙ same_book recovers (example_base i) (started begins.0.version begins.0.rs) q.records kept
 
-      small : last_incarnation this.place.records < 4294967295
+      pub small : last_incarnation this.place.records < 4294967295
       small =
           let last : (seen U.node).book.incarnation ≡ max (last_incarnation this.place.records + 1) (last_incarnation this.place.records) =
           ap (λ (b : Book). b.incarnation) book ∙ last_push this.place.records (start_after this.place.records) in

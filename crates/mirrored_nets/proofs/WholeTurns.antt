@@ -124,7 +124,7 @@ record_so law j bodies s has keeps limit (Some r) false disk refused formed (inr
     absurd (omega (arith, a, b, past, limit))
 
 -- steps without a record have no calls of the disk
-unrecorded_calls : (live limit : ℕ) (bodies : List (List ℕ)) (ss : List TurnStep) (ds : List Doing) → AreFates live limit bodies ss ds → AllByRecursion HasNone ss → calls_of ds ≡ all_made ds
+pub unrecorded_calls : (live limit : ℕ) (bodies : List (List ℕ)) (ss : List TurnStep) (ds : List Doing) → AreFates live limit bodies ss ds → AllByRecursion HasNone ss → calls_of ds ≡ all_made ds
 unrecorded_calls live limit bodies [] [] h none = refl
 unrecorded_calls live limit bodies [] (d ∷ ds) h none = absurd h
 unrecorded_calls live limit bodies (s ∷ ss) [] h none = absurd h

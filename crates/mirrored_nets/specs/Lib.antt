@@ -18,3 +18,7 @@ pub mod StruckTurns
 pub mod StruckStarts
 pub mod DueStarts
 pub mod StruckRequests
+pub mod TookAnew
+pub mod Rewritings
+pub mod NetMoves
+pub mod PossibleMeetings

@@ -8,6 +8,7 @@ use Rattle.memory_net.specs.declared.host.Host.{Host}
 use Rattle.node_at.specs.declared.local.Locally.{Locally}
 use Rattle.node_at.specs.declared.local.Locally.TheVariants as answers
 use Rattle.node_at.specs.declared.node.Node.{Node}
+use Rattle.node_at.specs.declared.shrink.Shrunk.TheVariants.{NoMemory}
 use Rattle.node_at.specs.declared.turn.Turned.{Turned}
 use Rattle.node_at.specs.declared.turn.Turned.TheVariants as turneds
 use Rattle.node_events.specs.NodeEvents.{one_if, struck}
@@ -147,6 +148,8 @@ pub record TookTurn (i count lines : ℕ) (bytes : List ℕ) (n : Node) (old : M
   pub ends : EndsSo came result
   pub comes : ComesTo came lines made fates until
   pub left : LeftSo came node old site new
+  -- there was memory at its end, where the journal is written anew
+  pub remembers : node.shrunk ≡ NoMemory → ⊥
   pub posted : more ≡ mails ++ mails_in i count (sent_by (take (kept_of came made) made))
 
 -- it was taken, or refused; or the node halted

@@ -3,6 +3,7 @@ use Rattle.std.specs.Prelude.{ℕ, List, Bool, None, Result, ◌≡◌, nat_lt}
 use Rattle.at_base.specs.declared.record.Record.{Record}
 use Rattle.at_model.specs.Recovery.{last_incarnation}
 use Rattle.journal_at.specs.declared.version.Version.{Version}
+use Rattle.followed_files.specs.Starts.{MayBeStruck}
 use Rattle.memory_net.specs.Calls.{Begins}
 use Rattle.memory_net.specs.declared.host.Host.{Host}
 use Rattle.node_at.specs.Starts.{StandFor}
@@ -27,6 +28,7 @@ pub record TookStart (base : List ℕ) (old : MemSite) (new : Host) (landed : Bo
   pub result : Result Node StartFault
   pub site : MemSite
   pub begins : Begins base result old site
+  pub may : MayBeStruck result
   pub kept : ℕ
   pub choice : Choice
   pub down : new.node ≡ None

@@ -9,19 +9,25 @@ ghost use Rattle.mirrored_nets.specs.Counted.{IsCounted};
 ghost use Rattle.mirrored_nets.specs.DueStarts.{CanBegin, IsWant};
 ghost use Rattle.mirrored_nets.specs.Fates.{failures, refusals};
 ghost use Rattle.mirrored_nets.specs.Goings.{CameUp, IsSet, WentDown};
-ghost use Rattle.mirrored_nets.specs.Took.{Adds, AnswersSo, EndsSo, FellBack, HasRoom, IsFull, IsTriedLine, LeftSo, TookRequest, TookTurn, kept_of};
+ghost use Rattle.mirrored_nets.specs.NetSteps.{TookRequestBy, TookTurnBy};
+ghost use Rattle.mirrored_nets.specs.Took.{Adds, AnswersSo, EndsSo, FellBack, HasRoom, IsFull, IsTriedLine, LeftSo, kept_of};
 ghost use Rattle.mirrored_nets.specs.StruckRequests.{IsStruckRequest};
 ghost use Rattle.mirrored_nets.specs.StruckTurns.{IsStruckTurn, IsToldOf};
 ghost use Rattle.mirrored_nets.specs.Unarmed.{IsReady, IsntApart};
 ghost use Rattle.mirrored_nets.specs.declared.fault.Unlike.TheVariants as unlikes;
+ghost use Rattle.mirrored_nets.specs.Rewritings.{IsStruckRewriting};
+ghost use Rattle.mirrored_nets.specs.TookAnew.{TookAnew};
 ghost use Rattle.node_at.specs.declared.local.Locally.TheVariants as answers;
+ghost use Rattle.node_at.specs.declared.shrink.Shrunk.TheVariants.{NoMemory};
 ghost use Rattle.node_at.specs.declared.turn.Turned.TheVariants as turneds;
 
 use crate::calls::{failures, refusals, since, tried};
 use crate::came::Came;
 use crate::fault::Unlike;
 use crate::judged::{Armed, judged};
-use crate::laws::{starts_fail_for_want, struck_requests, struck_turns};
+use crate::judged_anew::judged_anew;
+use crate::laws::{starts_fail_for_want, struck_requests, struck_rewritings, struck_turns};
+use armed_calls::fault::Armed as Known;
 use at_base::event::Local;
 use at_base::text::Text;
 use memory_net::host::Host;
@@ -30,6 +36,7 @@ use memory_net::machine::{ask, begin, turn};
 use node_at::fault::StartFault;
 use node_at::local::Locally;
 use node_at::node::Node;
+use node_at::shrink::Shrunk;
 use node_at::turn::Turned;
 use site_memory::arm::Choice;
 use site_memory::entry::Entry;
@@ -137,11 +144,15 @@ fn spoke(lines: usize, calls: &[Entry]) -> Result<(), Unlike>
     }
 }
 
-/// Whether there was memory for a turn.
-fn remembered(turned: Turned) -> Result<(), Unlike>
+/// Whether there was memory for a turn, also at its end, where the journal is written anew.
+fn remembered(turned: Turned, node: &Node) -> Result<(), Unlike>
     ensures room { IfOk result (λ _. turned ≡ turneds.NoRoom → ⊥) }
+    ensures shrank { IfOk result (λ _. node.now.shrunk ≡ NoMemory → ⊥) }
     ensures memory { IsntApart result }
 {
+    if let Shrunk::NoMemory = node.shrunk() {
+        return Err(Unlike::NoMemory);
+    }
     match turned {
         Turned::NoRoom => Err(Unlike::NoMemory),
         _ => Ok(()),
@@ -267,7 +278,7 @@ pub(crate) fn take(
 ) -> Result<Host, Unlike>
     requires serving { IsServing node }
     requires room { HasRoom site }
-    ensures took { IfOk result (λ host. TookTurn number count lines bytes.now node site host (map mail_of letters.old.items) (map mail_of letters.new.items) fates.now until) }
+    ensures took { IfOk result (λ host. TookTurnBy armed number count lines bytes.now node site host (map mail_of letters.old.items) (map mail_of letters.new.items) fates.now until) }
     ensures possible { IsStruckTurn number count lines bytes.now node site armed fates.now until → IsntApart result }
 {
     struck_turns();
@@ -278,9 +289,47 @@ pub(crate) fn take(
         return Err(Unlike::NoMemory);
     };
     let calls = made_since(&before, &machine)?;
-    remembered(turned)?;
+    remembered(turned, &after)?;
     spoke(lines, calls)?;
     let came = judged(lines, calls, armed, fates, until)?;
+    ends(came, turned)?;
+    let Ok(()) = gather(alloc, number, count, kept_of(came, calls), letters) else {
+        return Err(Unlike::NoMemory);
+    };
+    left(came, after, machine, before.calls)
+}
+
+/// The same of a turn at whose end the journal is written anew, and this call is that one of the six by which it is.
+pub(crate) fn rewrite(
+    alloc: Global,
+    node: Node,
+    site: MemSite,
+    number: u8,
+    count: u8,
+    lines: usize,
+    bytes: &[u8],
+    armed: Known,
+    call: u32,
+    fates: &Fates,
+    until: Option<u64>,
+    letters: &mut Vec<Letter>,
+) -> Result<Host, Unlike>
+    requires serving { IsServing node }
+    requires room { HasRoom site }
+    ensures took { IfOk result (λ host. TookAnew number count lines bytes.now node site host (map mail_of letters.old.items) (map mail_of letters.new.items) fates.now until armed call) }
+    ensures possible { IsStruckRewriting number count lines bytes.now node site armed call fates.now until → IsntApart result }
+{
+    struck_rewritings();
+    let mut after = node;
+    let mut machine = site;
+    let before = counts_of(&machine);
+    let Ok(turned) = turn(alloc, &mut after, &mut machine, bytes) else {
+        return Err(Unlike::NoMemory);
+    };
+    let calls = made_since(&before, &machine)?;
+    remembered(turned, &after)?;
+    spoke(lines, calls)?;
+    let came = judged_anew(lines, calls, armed, call, fates, until)?;
     ends(came, turned)?;
     let Ok(()) = gather(alloc, number, count, kept_of(came, calls), letters) else {
         return Err(Unlike::NoMemory);
@@ -303,7 +352,7 @@ pub(crate) fn request(
 ) -> Result<Host, Unlike>
     requires serving { IsServing node }
     requires room { HasRoom site }
-    ensures took { IfOk result (λ host. TookRequest number count local.now node site host (map mail_of letters.old.items) (map mail_of letters.new.items) fates.now until) }
+    ensures took { IfOk result (λ host. TookRequestBy armed number count local.now node site host (map mail_of letters.old.items) (map mail_of letters.new.items) fates.now until) }
     ensures possible { IsStruckRequest number count local.now node site armed fates.now until → IsntApart result }
 {
     struck_requests();

@@ -15,6 +15,7 @@ ghost use Rattle.mirrored_nets.specs.ArmedCalls.{choice_of};
 ghost use Rattle.mirrored_nets.specs.Fates.{AllDone, AreAsked};
 ghost use Rattle.mirrored_nets.specs.Kept.{is_write, kept_at, writes_at};
 ghost use Rattle.mirrored_nets.specs.Struck.{ComesAt, IsUnhalted};
+ghost use Rattle.mirrored_nets.specs.NetSteps.{IsCutBy};
 ghost use Rattle.mirrored_nets.specs.Took.{ComesTo, HaltsSo, IsKept};
 ghost use Rattle.mirrored_nets.specs.declared.came.Came.TheVariants.{Halts, Stays};
 
@@ -84,7 +85,7 @@ fn is_write(entry: &Entry) -> bool
 }
 
 /// Whether the call at that place is a write.
-fn writes_at(calls: &[Entry], place: usize) -> bool
+pub(crate) fn writes_at(calls: &[Entry], place: usize) -> bool
     ensures { result ≡ writes_at place (mades calls.now) }
 {
     match calls.get(place) {
@@ -134,7 +135,7 @@ fn is_kept(
 }
 
 /// Whether a stop comes behind all of so many fates, or there is none.
-fn is_beyond(until: Option<u64>, fates: usize) -> bool
+pub(crate) fn is_beyond(until: Option<u64>, fates: usize) -> bool
     ensures is { result ≡ true → IsBeyond until fates }
     ensures exact { IsBeyond until fates → result ≡ true }
 {
@@ -169,6 +170,7 @@ fn stopped(
     until: u64,
 ) -> Result<Came, Unlike>
     ensures comes { IfOk result (λ came. ComesTo came lines (mades calls.now) fates.now (Some until)) }
+    ensures cut { IfOk result (IsCutBy (Armed.Stop k choice)) }
     ensures stops { (a : Known) (leaves : Leaves) → a.fault ≡ faults.Stop leaves → k ≡ lines + a.call → choice ≡ choice_of leaves → AllDone (mades calls.now)
         → ComesAt lines (mades calls.now) a fates.now (Some until) → IsUnhalted result }
     ensures unbegun { k ≤ lines → AllDone (mades calls.now) → fates.now ≡ [] → until ≡ 0 → IsUnhalted result }
@@ -230,6 +232,7 @@ fn sync_failed(calls: &[Entry], count: usize) -> bool
 fn halted(lines: usize, calls: &[Entry], fates: &Fates, until: u64) -> Result<Came, Unlike>
     requires { lines ≤ 1 }
     ensures comes { IfOk result (λ came. ComesTo came lines (mades calls.now) fates.now (Some until)) }
+    ensures cut { (k : ℕ) → IfOk result (IsCutBy (Armed.Fail k)) }
     ensures halts { HaltsSo lines (mades calls.now) fates.now (Some until) → result ≡ Ok Halts }
 {
     let Some(stands) = struck(fates, 0) else {
@@ -257,6 +260,7 @@ pub(crate) fn judged(
 ) -> Result<Came, Unlike>
     requires { lines ≤ 1 }
     ensures comes { IfOk result (λ came. ComesTo came lines (mades calls.now) fates.now until) }
+    ensures cut { IfOk result (IsCutBy armed) }
     ensures whole { AreAsked lines (mades calls.now) fates.now until → result ≡ Ok Stays }
     ensures halts { (k : ℕ) → armed ≡ Armed.Fail k → HaltsSo lines (mades calls.now) fates.now until → result ≡ Ok Halts }
     ensures stops { (a : Known) (leaves : Leaves) → a.fault ≡ faults.Stop leaves → armed ≡ Armed.Stop (lines + a.call) (choice_of leaves) → AllDone (mades calls.now)

@@ -1,32 +1,41 @@
 //! A net in memory that mirrors a world.
 
 ghost use Rattle.armed_calls.specs.Faults.{record_stands, start_calls};
-ghost use Rattle.armed_calls.specs.declared.fault.Armed.{Armed as Known};
+ghost use Rattle.armed_calls.specs.declared.meeting.Meeting.TheVariants as meetings;
 ghost use Rattle.std.specs.Prelude.{ℕ, Option, List, ◌-◌, ◌≡◌, ◌≤◌, ◌<◌, ◌^◌, [], false, true, IfErr, IfOk, OnOk, Some, is_some, length, map, option_copied};
 ghost use Rattle.at_model.specs.World.{World, Ask, Crash, Deliver, Raw, Turn, Up, example_base, example_hosts, node_of, nth, opening, put_nth};
+ghost use Rattle.followed_files.specs.Follows.{FollowsHost};
+ghost use Rattle.live_files.specs.LiveFiles.{LiveFile};
 ghost use Rattle.memory_net.specs.Mails.{mail_of};
 ghost use Rattle.memory_net.specs.declared.host.Host.{Host};
 ghost use Rattle.world_laws.specs.Events.{event_of, input_of};
 ghost use Rattle.mirrored_nets.specs.DueStarts.{CanBegin};
 ghost use Rattle.mirrored_nets.specs.Goings.{IsBrought, IsTick, ms_of};
 ghost use Rattle.mirrored_nets.specs.Mirrors.{Mirrors};
-ghost use Rattle.mirrored_nets.specs.NetSteps.{IsGiven, IsUnstarted, NetMove, NetStep};
+ghost use Rattle.mirrored_nets.specs.NetMoves.{NetMove, NetStepAnew, NetStepBy};
+ghost use Rattle.mirrored_nets.specs.NetSteps.{IsGiven, IsUnstarted, NetStep};
+ghost use Rattle.mirrored_nets.specs.Rewritings.{CanRewrite};
 ghost use Rattle.mirrored_nets.specs.Rooms.{HasRoomAt, IsFullAt};
 ghost use Rattle.mirrored_nets.specs.Started.{Started};
+ghost use Rattle.mirrored_nets.specs.PossibleMeetings.{CanBeMet};
 ghost use Rattle.mirrored_nets.specs.PossibleMoves.{CanBe, IsNumbered, MayCome};
 ghost use Rattle.mirrored_nets.specs.ArmedCalls.{call_of};
 ghost use Rattle.mirrored_nets.specs.StruckStarts.{IsMarked};
 ghost use Rattle.mirrored_nets.specs.Unarmed.{IsReady, IsntApart};
 ghost use Rattle.mirrored_nets.specs.declared.fault.Fault.TheVariants.{Apart, Full};
-ghost use Rattle.possible_events.specs.PossibleEvents.{IsPossible};
+ghost use Rattle.mirrored_nets.specs.declared.judged.Armed.{Armed as Call};
+ghost use Rattle.possible_events.specs.PossibleEvents.{CanMeet};
 
+use crate::armed_call::call_of;
 use crate::asks::names_examples;
 use crate::fault::{Fault, Unlike};
-use crate::host::{come_up, go_down, has_room, request, set, take};
+use crate::host::{come_up, go_down, has_room, request, rewrite, set, take};
 use crate::judged::Armed;
-use crate::laws::{down_are_marked, down_can_begin, nets_mirror};
+use crate::laws::{down_are_marked, down_can_begin, nets_mirror, rewritings_mirror};
 use crate::starts::start_struck;
 use addressing::post_to::PostTo;
+use armed_calls::fault::Armed as Known;
+use armed_calls::meeting::Meeting;
 use at_base::event::Local;
 use at_base::text::Text;
 use carried_meanings::laws::bytes_mean_one_thing;
@@ -348,7 +357,7 @@ impl Net {
         raw: &[u8],
     ) -> Result<Net, Unlike>
         requires { HasRoomAt number self.hosts }
-        ensures step { IfOk result (NetStep (Turn number (input_of input) fates.now until) raw.now self) }
+        ensures step { IfOk result (NetStep armed (Turn number (input_of input) fates.now until) raw.now self) }
         ensures possible { CanBe self (Turn number (input_of input) fates.now until) raw.now armed → IsntApart result }
     {
         links_hold();
@@ -391,6 +400,60 @@ impl Net {
         })
     }
 
+    /// A turn at a node that is up, at whose end its journal is written anew, and this call is that one of the six by which it is.
+    fn rewrite(
+        self,
+        alloc: Global,
+        number: u8,
+        input: Input,
+        armed: Known,
+        call: u32,
+        fates: &Fates,
+        until: Option<u64>,
+        raw: &[u8],
+    ) -> Result<Net, Unlike>
+        requires { HasRoomAt number self.hosts }
+        ensures step { IfOk result (NetStepAnew (Turn number (input_of input) fates.now until) raw.now (meetings.Anew armed call) self) }
+        ensures possible { CanRewrite self number (input_of input) fates.now until raw.now armed call → IsntApart result }
+    {
+        links_hold();
+        letters_are_short();
+        bytes_wait_or_not();
+        let Net {
+            mut hosts,
+            mut clocks,
+            mut letters,
+        } = self;
+        let count = count_of(hosts.as_slice())?;
+        let clock = clock_of(clocks.as_slice(), number)?;
+        let (node, site) = taken_up(alloc, &mut hosts, number)?;
+        let Some(now) = clock.checked_add(ms_of(input) as u64) else {
+            return Err(Unlike::Apart);
+        };
+        let brought = brought_by(alloc, letters.as_slice(), number, input, raw)?;
+        let host = rewrite(
+            alloc,
+            node,
+            set(site, call_of(Some(armed)), now),
+            number,
+            count,
+            brought.lines,
+            brought.bytes.as_slice(),
+            armed,
+            call,
+            fates,
+            until,
+            &mut letters,
+        )?;
+        put_host(&mut hosts, number, host)?;
+        put_clock(&mut clocks, number, now)?;
+        Ok(Net {
+            hosts,
+            clocks,
+            letters,
+        })
+    }
+
     /// A request at a node that is up.
     fn ask(
         self,
@@ -402,7 +465,7 @@ impl Net {
         until: Option<u64>,
     ) -> Result<Net, Unlike>
         requires { HasRoomAt number self.hosts }
-        ensures step { IfOk result (NetStep (Ask number local.now fates.now until) [] self) }
+        ensures step { IfOk result (NetStep armed (Ask number local.now fates.now until) [] self) }
         ensures possible { (raw : List ℕ) → CanBe self (Ask number local.now fates.now until) raw armed → IsntApart result }
     {
         links_hold();
@@ -445,7 +508,7 @@ impl Net {
 
     /// A crash of a node that is up.
     fn crash(self, alloc: Global, number: u8) -> Result<Net, Unlike>
-        ensures step { IfOk result (NetStep (Crash number) [] self) }
+        ensures step { (armed : Call) → IfOk result (NetStep armed (Crash number) [] self) }
         ensures there { IsNumbered self number → IsntApart result }
     {
         if !is_up(self.hosts.as_slice(), number)? {
@@ -475,7 +538,7 @@ impl Net {
         stop: bool,
     ) -> Result<Net, Unlike>
         requires { HasRoomAt number self.hosts }
-        ensures step { IfOk result (NetStep (Up number landed stop) [] self) }
+        ensures step { IfOk result (NetStep armed (Up number landed stop) [] self) }
         ensures possible { (raw : List ℕ) → CanBe self (Up number landed stop) raw armed → IsntApart result }
     {
         links_hold();
@@ -512,7 +575,7 @@ impl Net {
         raw: &[u8],
     ) -> Result<Net, Unlike>
         requires { HasRoomAt (node_of (event_of event.now)) self.hosts }
-        ensures step { IfOk result (NetStep (event_of event.now) raw.now self) }
+        ensures step { IfOk result (NetStep armed (event_of event.now) raw.now self) }
         ensures possible { CanBe self (event_of event.now) raw.now armed → IsntApart result }
     {
         match event {
@@ -535,26 +598,80 @@ impl Net {
         }
     }
 
-    /// An event of the world that it mirrors is done to the host of its node; which call is armed there, and the bytes that it brings where they
-    /// are no message.
+    /// One in which this call comes by which the journal of its node is written anew: a turn.
+    #[tactic(auto, using(crate::proofs::NetMeetings::can_rewrite, crate::proofs::NetMeetings::no_request, crate::proofs::NetMeetings::no_crash, crate::proofs::NetMeetings::no_start))]
+    fn step_anew(
+        self,
+        alloc: Global,
+        event: &WorldEvent,
+        armed: Known,
+        call: u32,
+        raw: &[u8],
+    ) -> Result<Net, Unlike>
+        requires { HasRoomAt (node_of (event_of event.now)) self.hosts }
+        ensures step { IfOk result (NetStepAnew (event_of event.now) raw.now (meetings.Anew armed call) self) }
+        ensures possible { CanBeMet self (meetings.Anew armed call) (event_of event.now) raw.now → IsntApart result }
+    {
+        match event {
+            WorldEvent::Turn {
+                node,
+                input,
+                fates,
+                until,
+            } => self.rewrite(alloc, *node, *input, armed, call, fates, *until, raw),
+            WorldEvent::Ask { .. } => Err(Unlike::Apart),
+            WorldEvent::Crash { .. } => Err(Unlike::Apart),
+            WorldEvent::Up { .. } => Err(Unlike::Apart),
+        }
+    }
+
+    /// One that meets this.
+    #[tactic(auto, using(crate::proofs::NetMeetings::can_be, crate::proofs::NetMeetings::can_be_struck))]
+    fn step_by(
+        self,
+        alloc: Global,
+        event: &WorldEvent,
+        met: Meeting,
+        raw: &[u8],
+    ) -> Result<Net, Unlike>
+        requires { HasRoomAt (node_of (event_of event.now)) self.hosts }
+        ensures step { IfOk result (NetStepBy met (event_of event.now) raw.now self) }
+        ensures possible { CanBeMet self met (event_of event.now) raw.now → IsntApart result }
+    {
+        match met {
+            Meeting::Nothing => self.step(alloc, event, Armed::No, raw),
+            Meeting::Call(armed) => self.step(alloc, event, call_of(Some(armed)), raw),
+            Meeting::Anew { armed, call } => self.step_anew(alloc, event, armed, call, raw),
+            Meeting::Ended => Ok(self),
+        }
+    }
+
+    /// An event of the world that it mirrors is done to the host of its node, but for a crash that was done with the turn before it; which armed call
+    /// comes in it, and the bytes that it brings where they are no message.
+    #[tactic(auto, using(crate::proofs::NetMeetings::ended))]
     pub fn follow(
         self,
         alloc: Global,
         event: &WorldEvent,
-        armed: Armed,
+        met: Meeting,
         raw: &[u8],
     ) -> Result<Net, Fault>
         ensures moves { (count : ℕ) (w : World) → count ≤ 8 → Mirrors count self.hosts self.clocks (map mail_of self.letters) w
-            → IfOk result (NetMove count w (event_of event.now) raw.now self) }
+            → IfOk result (NetMove count w met (event_of event.now) raw.now self) }
         ensures full { IfErr result (λ fault. fault ≡ Full → IsFullAt (node_of (event_of event.now)) self.hosts) }
-        ensures done { (count : ℕ) (w : World) (a : Option Known) → count ≤ 8 → Mirrors count self.hosts self.clocks (map mail_of self.letters) w → armed ≡ call_of a
-            → IsPossible count w (event_of event.now) raw.now a → IfErr result (λ fault. fault ≡ Apart → ⊥) }
+        ensures done { (count : ℕ) (w : World) (file : LiveFile) → count ≤ 8 → Mirrors count self.hosts self.clocks (map mail_of self.letters) w
+            → ((h : Host) → nth (node_of (event_of event.now)) self.hosts ≡ Some h → FollowsHost file h) → CanMeet count w file (event_of event.now) raw.now met
+            → IfErr result (λ fault. fault ≡ Apart → ⊥) }
     {
         nets_mirror();
+        rewritings_mirror();
+        if let Meeting::Ended = met {
+            return Ok(self);
+        }
         if !self.has_room(event.node()) {
             return Err(Fault::Full);
         }
-        match self.step(alloc, event, armed, raw) {
+        match self.step_by(alloc, event, met, raw) {
             Ok(net) => Ok(net),
             Err(Unlike::NoMemory) => Err(Fault::NoMemory),
             Err(Unlike::Apart) => Err(Fault::Apart),

@@ -1,14 +1,21 @@
 -- Events of a world of nodes with the bases of the examples that can be done to nodes which run on machines in memory, also where a call of theirs is
 -- to fail, or they are to stop at one.
-use Rattle.std.specs.Prelude.{ℕ, List, [], ◌∷◌, ◌+◌, ◌-◌, ◌≡◌, ◌≤◌, ◌<◌, ◌^◌, ◌⊎◌, Bool, true, false, Option, Some, None, codes, drop, if◌then◌else◌, length}
+use Rattle.std.specs.Prelude.{ℕ, List, [], ◌∷◌, ◌+◌, ◌-◌, ◌≡◌, ◌≤◌, ◌<◌, ◌^◌, ◌⊎◌, Bool, true, false, Option, Some, None, codes, drop, if◌then◌else◌, length, min}
 use Rattle.armed_calls.specs.Faults.{Met, fates_of, is_stop, met, record_stands, start_calls, until_of}
 use Rattle.armed_calls.specs.declared.fault.Armed.{Armed}
+use Rattle.armed_calls.specs.declared.meeting.Meeting.{Meeting}
+use Rattle.armed_calls.specs.declared.meeting.Meeting.TheVariants as meetings
 use Rattle.at_base.specs.declared.event.Local.{Local}
 use Rattle.at_base.specs.declared.event.Local.TheVariants as locals
 use Rattle.at_model.specs.Recovery.{last_incarnation}
-use Rattle.at_model.specs.World.{Input, Node, Posted, World, WorldEvent, Deliver, Tick, Raw, Turn, Ask, Crash, Up, example_base, nth, world_step}
+use Rattle.at_model.specs.World.{Input, Node, Posted, World, WorldEvent, Deliver, Tick, Raw, Turn, Ask, Crash, Up, example_base, node_of, nth, world_step}
+use Rattle.followed_events.specs.FollowedEvents.{is_up, stepped}
+use Rattle.followed_events.specs.Meetings.{file_at, files_behind, next_met, world_behind}
+use Rattle.live_files.specs.LiveFiles.{LiveFile}
+use Rattle.live_files.specs.Rewritings.{calls_anew, is_due, of_six}
 use Rattle.raw_requests.specs.Draws.{Draws}
 use Rattle.raw_requests.specs.declared.Drawn.TheVariants as drawns
+use Rattle.schedules.specs.declared.line.Leaves.TheVariants as leaves
 use Rattle.world_laws.specs.Firsts.{first_records}
 use Rattle.world_laws.specs.Moves.{left_of}
 use Rattle.possible_events.specs.BroughtBytes.{first_of, left_by}
@@ -94,7 +101,25 @@ StrikesStart w n None landed stop = ((landed ≡ true) × (stop ≡ false) × Ha
 StrikesStart w n (Some a) landed stop =
     (1 ≤ a.call) × (a.call ≤ start_calls) × (landed ≡ record_stands (a.call - 2) a.fault) × (stop ≡ true) × HasStarted w n
 
--- An event at one of so many nodes, at which this call comes or none; where it brings bytes that are no message, these.
+-- so many calls come from the first by which the journal is written anew up to the armed one, which is numbered from the first step on
+abbrev pub place_anew : World → WorldEvent → ℕ → ℕ
+place_anew w e call = min (length (left_of w e).fates) call
+
+-- It asks for the fates of a call that comes behind all its steps, so that they have all their calls done: as many of the fates are left as calls of those
+-- by which the journal is written anew come up to it. That is due there, at a node that is up, and it is that one of the six.
+pub record IsStruckAnew (w : World) (e : WorldEvent) (lines : ℕ) (f : LiveFile) (a : Armed) (call : ℕ) (fates : List Bool) (until : Option ℕ) : Type 0 where
+  pub first : Bool
+  pub is : first_records w e ≡ Some first
+  pub behind : lines < a.call
+  pub fates_are : fates ≡ fates_of (met first (record a { call = a.call - lines }))
+  pub until_is : until ≡ until_of (met first (record a { call = a.call - lines }))
+  pub up : is_up (world_step w e) (node_of e) ≡ true
+  pub due : is_due (stepped leaves.Keep w e f) ≡ true
+  pub least : 1 ≤ place_anew w e (a.call - lines)
+  pub most : place_anew w e (a.call - lines) ≤ calls_anew (stepped leaves.Keep w e f)
+  pub is_call : call ≡ of_six (stepped leaves.Keep w e f) (place_anew w e (a.call - lines))
+
+-- An event at one of so many nodes, at which this call comes in its steps or in a start, or none; where it brings bytes that are no message, these.
 abbrev pub IsPossible : ℕ → World → WorldEvent → List ℕ → Option Armed → Type 0
 IsPossible count w (Turn n input fates until) raw armed =
     IsThere count n × ((lines : ℕ) × CanCome w n input raw lines × Strikes w (Turn n input fates until) lines armed fates until)
@@ -102,12 +127,24 @@ IsPossible count w (Ask n request fates until) raw armed = IsThere count n × Is
 IsPossible count w (Crash n) raw armed = IsThere count n
 IsPossible count w (Up n landed stop) raw armed = IsThere count n × StrikesStart w n armed landed stop
 
--- the first of these, or none
-abbrev pub next_met : List (Option Armed) → Option Armed
-next_met [] = None
-next_met (a ∷ met) = a
+-- One in which a call comes by which the journal of that file is written anew; only a turn has such.
+abbrev pub IsPossibleAnew : ℕ → World → LiveFile → WorldEvent → List ℕ → Armed → ℕ → Type 0
+IsPossibleAnew count w f (Turn n input fates until) raw a call =
+    IsThere count n × ((lines : ℕ) × CanCome w n input raw lines × IsStruckAnew w (Turn n input fates until) lines f a call fates until)
+IsPossibleAnew count w f (Ask n request fates until) raw a call = ⊥
+IsPossibleAnew count w f (Crash n) raw a call = ⊥
+IsPossibleAnew count w f (Up n landed stop) raw a call = ⊥
 
--- Each of these is possible where it comes, from that world on; the bytes that they bring are these, in order, and these calls come in them.
-abbrev pub ArePossible : ℕ → World → List WorldEvent → List (List ℕ) → List (Option Armed) → Type 0
-ArePossible count w [] raws met = Unit {0}
-ArePossible count w (e ∷ es) raws met = IsPossible count w e (first_of raws) (next_met met) × ArePossible count (world_step w e) es (left_by e raws) (drop 1 met)
+-- one that meets this, at a node of whose journal that is followed
+abbrev pub CanMeet : ℕ → World → LiveFile → WorldEvent → List ℕ → Meeting → Type 0
+CanMeet count w f e raw meetings.Nothing = IsPossible count w e raw None
+CanMeet count w f e raw (meetings.Call a) = IsPossible count w e raw (Some a)
+CanMeet count w f e raw (meetings.Anew a call) = IsPossibleAnew count w f e raw a call
+CanMeet count w f e raw meetings.Ended = Unit {0}
+
+-- Each of these is possible where it comes, from that world on; the bytes that they bring are these, in order, and they meet these calls.
+abbrev pub ArePossible : ℕ → World → List LiveFile → List WorldEvent → List (List ℕ) → List Meeting → Type 0
+ArePossible count w files [] raws met = Unit {0}
+ArePossible count w files (e ∷ es) raws met =
+    CanMeet count w (file_at (node_of e) files) e (first_of raws) (next_met met)
+    × ArePossible count (world_behind (next_met met) w e) (files_behind (next_met met) w e files) es (left_by e raws) (drop 1 met)

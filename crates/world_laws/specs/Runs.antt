@@ -1,7 +1,8 @@
 -- The world of a run, and what it shows of its nodes.
-use Rattle.std.specs.Prelude.{ℕ, List, Option, Some, map, option_map, option_and_then, length, ◌≡◌, ◌≤◌, ◌<◌, ◌+◌, ◌*◌}
+use Rattle.std.specs.Prelude.{ℕ, List, [], Option, Some, None, map, option_map, option_and_then, length, ◌≡◌, ◌≤◌, ◌<◌, ◌+◌, ◌*◌}
 use Rattle.std.specs.List.{AllByRecursion}
 use Rattle.at_base.specs.declared.event.Local.{Local}
+use Rattle.at_base.specs.declared.record.Record.{Record}
 use Rattle.at_model.specs.Activities.{Refusal}
 use Rattle.at_model.specs.Book.{Book}
 use Rattle.model_laws.specs.Order.{IsInOrder}
@@ -39,6 +40,14 @@ book_at w n = option_and_then book_of (nth n w.nodes)
 
 abbrev pub incarnation_at : World → ℕ → Option ℕ
 incarnation_at w n = option_map incarnation_of (book_at w n)
+
+abbrev pub journal_of : Option Node → List Record
+journal_of None = []
+journal_of (Some x) = x.journal
+
+-- the records of a node's journal
+abbrev pub journal_at : World → ℕ → List Record
+journal_at w n = journal_of (nth n w.nodes)
 
 -- why a node that is up refuses a request
 abbrev pub refused_at : World → ℕ → Local → Option Refusal

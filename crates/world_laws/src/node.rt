@@ -84,6 +84,13 @@ impl Node {
         self.clock
     }
 
+    /// The records of its journal, in order.
+    pub fn journal(&self) -> &[Record]
+        ensures { result.now ≡ self.now.journal }
+    {
+        self.journal.as_slice()
+    }
+
     /// Its book, where it is up.
     pub fn book(&self) -> Option<&Book>
         ensures { option_copied result ≡ self.now.book }

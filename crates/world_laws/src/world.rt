@@ -16,7 +16,7 @@ ghost use Rattle.world_laws.specs.Events.{event_of};
 ghost use Rattle.world_laws.specs.Firsts.{first_records};
 ghost use Rattle.world_laws.specs.Holdings.{NodeHoldsFew, world_held};
 ghost use Rattle.world_laws.specs.Moves.{left_of, losses_of, steps_of};
-ghost use Rattle.world_laws.specs.Runs.{book_at, clock_at, incarnation_at, refused_at, world_of};
+ghost use Rattle.world_laws.specs.Runs.{book_at, clock_at, incarnation_at, journal_at, refused_at, world_of};
 
 use crate::event::WorldEvent;
 use crate::laws::changes_by_moves;
@@ -25,6 +25,7 @@ use crate::posts::{NodeEffect, Posted, Steps};
 use crate::scene::{Happening, Scene};
 use at_base::event::Local;
 use at_base::outs::Effects;
+use at_base::record::Record;
 use completion_at::requests::Refusal;
 use interposition::book::Book;
 use model_laws::rules::{enlists_under_one, examples_are_apart, ids_rise, makes_no_id_twice};
@@ -173,6 +174,16 @@ impl World {
         ensures { option_copied result ≡ book_at (world_of self.now) node }
     {
         self.scene.node(node)?.book()
+    }
+
+    /// The records of a node's journal, in order; none where there is no such node.
+    pub fn journal(&self, node: u8) -> &[Record]
+        ensures { result.now ≡ journal_at (world_of self.now) node }
+    {
+        match self.scene.node(node) {
+            Some(found) => found.journal(),
+            None => &[],
+        }
     }
 
     /// The incarnation of a node that is up.

@@ -7,9 +7,8 @@ use Rattle.mirrored_nets.proofs.host.request.Goals as goal
 pub returns-clause-took : goal.returns-clause-took
 returns-clause-took c =
     if_ok c.left.result c.left.ensures.left
-    (λ host left.
-    took_request c.args.number c.args.count _ c.args.local.now c.args.node _ c.args.site _ host _ _ c.args.fates.now c.args.until c.ask-locally.result c.in_ok-came.came c.in_ok-calls.calls.now c.kept_of.result.now
-    c.requires.room c.ask-locally.ensures c.counts_of-before.ensures.calls (c.in_ok-calls.ensures.adds c.args.site c.counts_of-before.ensures) c.in_ok-answers.ensures.answers c.in_ok-came.ensures.comes left (c.kept_of.ensures, c.in-Ok.ensures))
+    (λ host left. took_request c.args.armed c.args.number c.args.count _ c.args.local.now c.args.node _ c.args.site _ host _ _ c.args.fates.now c.args.until c.ask-locally.result c.in_ok-came.came c.in_ok-calls.calls.now c.kept_of.result.now
+    c.requires.room c.ask-locally.ensures c.counts_of-before.ensures.calls (c.in_ok-calls.ensures.adds c.args.site c.counts_of-before.ensures) c.in_ok-answers.ensures.answers c.in_ok-came.ensures.comes left (c.kept_of.ensures, c.in-Ok.ensures) c.in_ok-came.ensures.cut)
 
 pub returns-in_err-came-clause-possible : goal.returns-in_err-came-clause-possible
 returns-in_err-came-clause-possible c = λ possible.

@@ -8,10 +8,9 @@ use Rattle.mirrored_nets.proofs.host.take.Goals as goal
 pub returns-clause-took : goal.returns-clause-took
 returns-clause-took c =
     if_ok c.left.result c.left.ensures.left
-    (λ host left.
-    took_turn c.args.number c.args.count c.args.lines _ c.args.bytes.now c.args.node _ c.args.site _ host _ _ c.args.fates.now c.args.until c.in-Ok.turned c.in_ok-came.came c.in_ok-calls.calls.now c.kept_of.result.now
+    (λ host left. took_turn c.args.armed c.args.number c.args.count c.args.lines _ c.args.bytes.now c.args.node _ c.args.site _ host _ _ c.args.fates.now c.args.until c.in-Ok.turned c.in_ok-came.came c.in_ok-calls.calls.now c.kept_of.result.now
     c.requires.room c.in-Ok.ensures c.counts_of-before.ensures.calls (c.in_ok-calls.ensures.adds c.args.site c.counts_of-before.ensures) c.in_ok-ends.ensures.ends c.in_ok-came.ensures.comes left (c.kept_of.ensures, c.in-Ok-gather.ensures)
-    c.in_ok-spoke.ensures.spoke.0)
+    c.in_ok-spoke.ensures.spoke.0 c.in_ok-remembered.ensures.shrank c.in_ok-came.ensures.cut)
 
 pub returns-in_err-came-clause-possible : goal.returns-in_err-came-clause-possible
 returns-in_err-came-clause-possible c = λ possible.

@@ -1,6 +1,8 @@
+use Rattle.std.specs.Prelude.{IfOk}
 use Rattle.std.proofs.Common.{◌≡◌, ◌∙◌, ◌+◌, subst, sym}
 use Rattle.site_memory.specs.Entries.{mades}
 use Rattle.mirrored_nets.specs.ArmedCalls.{choice_of}
+use Rattle.mirrored_nets.specs.NetSteps.{IsCutBy}
 use Rattle.mirrored_nets.specs.Struck.{ComesAt}
 use Rattle.mirrored_nets.specs.declared.judged.Armed.TheVariants as calls
 use Rattle.mirrored_nets.proofs.HaltedCalls.{halt_stops}
@@ -16,3 +18,6 @@ returns-in-Some-Stop-clause-stops c = λ a left fault armed all at.
     let call : c.in-Some-Stop.k ≡ c.args.lines + a.call = cc in
     let choice : c.in-Some-Stop.choice ≡ choice_of left = cc in
     c.stopped.ensures.stops a left fault call choice all (subst (ComesAt c.args.lines (mades c.args.calls.now) a c.args.fates.now) c.in-Some-Stop.is-0 at)
+
+pub returns-in-Some-Fail-clause-cut : goal.returns-in-Some-Fail-clause-cut
+returns-in-Some-Fail-clause-cut c = subst (λ a. IfOk c.halted.result (IsCutBy a)) (sym c.in-Some-Fail.is-1) (c.halted.ensures.cut c.in-Some-Fail.field-0-1)

@@ -4,7 +4,7 @@ use Rattle.site_memory.specs.declared.machine.MemSite.{MemSite}
 use Rattle.mirrored_nets.specs.Took.{FellBack}
 use Rattle.mirrored_nets.specs.TookStart.{HasLast}
 use Rattle.mirrored_nets.proofs.HostSteps.{not_err, passed_up}
-use Rattle.mirrored_nets.proofs.StartFaults.{KeptSo, fell_same, kept_all, kept_is, kept_so, marked_stands, not_other, same_test}
+use Rattle.mirrored_nets.proofs.StartFaults.{KeptSo, fell_same, kept_all, kept_is, kept_so, marked_stands, may_be_struck, not_other, same_test}
 use Rattle.mirrored_nets.proofs.starts.start_struck.Goals as goal
 
 pub returns-clause-took : goal.returns-clause-took
@@ -14,6 +14,7 @@ returns-clause-took c =
       result = c.in_ok-begin_alone.ensures.begun.0;
       site = c.begin_alone.new.site;
       begins = c.in_ok-begin_alone.ensures.begun.1;
+      may = may_be_struck c.args.armed c.in_ok-begin_alone.ensures.begun.0 c.in_ok-begin_alone.ensures.begun.2;
       kept = c.in_ok-kept.kept;
       choice = c.in_ok-kept.choice;
       down = c.of.ensures.0;

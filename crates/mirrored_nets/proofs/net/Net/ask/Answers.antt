@@ -12,7 +12,7 @@ use Rattle.mirrored_nets.proofs.net.Net.ask.Goals as goal
 
 pub returns-then-not-branch-clause-step : goal.returns-then-not-branch-clause-step
 returns-then-not-branch-clause-step c =
-    rests_down [] c.args.self c.args.number (Ask c.args.number c.args.local.now c.args.fates.now c.args.until) c.in_ok-is_up.field-0 refl
+    rests_down c.args.armed [] c.args.self c.args.number (Ask c.args.number c.args.local.now c.args.fates.now c.args.until) c.in_ok-is_up.field-0 refl
     (up_at c.args.self.hosts c.as_slice.result.now c.args.number c.in_ok-is_up.field-0 (c.as_slice.ensures.value ∙ ap (λ (s : Seen). s.hosts) c.self.view_is) c.in_ok-is_up.ensures.up) c.if-not-branch.true tt
 
 pub request-requires-clause-serving : goal.request-requires-clause-serving
@@ -28,17 +28,17 @@ invariant_of-result c =
     let there = c.in_ok-node.ensures.here in
     serve_on c.args.number c.in_ok-host.host c.self.inside.hosts.items c.put_host.new.hosts.items c.self.invariant
     (asked_serves c.links_hold.ensures c.args.number c.in_ok-count.count c.args.local.now c.in_ok-node.node c.set.result c.in_ok-host.host _ _ c.args.fates.now c.args.until
-    (c.set.ensures.set.told (there_ready c.args.number c.self.inside.hosts.items there.0 c.in_ok-node.site c.self.invariant there.1 there.3)) c.in_ok-host.ensures.took)
+    (c.set.ensures.set.told (there_ready c.args.number c.self.inside.hosts.items there.0 c.in_ok-node.site c.self.invariant there.1 there.3)) c.in_ok-host.ensures.took.0)
     (c.in_ok-put_host.ensures.put ∙ c.in_ok-node.ensures.place c.in_ok-host.host)
 
 pub returns-clause-step : goal.returns-clause-step
 returns-clause-step c =
     let there = c.in_ok-node.ensures.here in
     let clock : nth c.args.number c.self.inside.clocks.items ≡ Some c.in_ok-clock.clock = subst (λ (l : List ℕ). nth c.args.number l ≡ Some c.in_ok-clock.clock) c.as_slice-3.ensures.value c.in_ok-clock.ensures.clock in
-    seen_by (Ask c.args.number c.args.local.now c.args.fates.now c.args.until) [] c.args.self
+    seen_by c.args.armed (Ask c.args.number c.args.local.now c.args.fates.now c.args.until) [] c.args.self
     (record { hosts = c.put_host.new.hosts.items; clocks = c.self.inside.clocks.items; letters = c.request.new.letters.items }) _ c.self.view_is
     (asks c.args.number c.self.inside.hosts.items c.put_host.new.hosts.items c.self.inside.clocks.items c.self.inside.letters.items there.0 c.in_ok-host.host there.1
-    (c.in_ok-put_host.ensures.put ∙ c.in_ok-node.ensures.place c.in_ok-host.host) c.in_ok-node.node c.in_ok-clock.clock c.in_ok-count.count c.args.local.now c.in_ok-node.site c.set.result
+    (c.in_ok-put_host.ensures.put ∙ c.in_ok-node.ensures.place c.in_ok-host.host) c.args.armed c.in_ok-node.node c.in_ok-clock.clock c.in_ok-count.count c.args.local.now c.in_ok-node.site c.set.result
     c.request.new.letters.items c.args.fates.now c.args.until there.2 clock (c.in_ok-count.ensures.count ∙ ap (λ (l : List Host). length l) c.as_slice-2.ensures.value)
     (c.in-Ok.ensures.is c.if-not-named.false) there.3 c.set.ensures.set c.in_ok-host.ensures.took)
 

@@ -14,12 +14,13 @@ use Rattle.mirrored_nets.proofs.net.Net.start.Goals as goal
 pub returns-clause-step : goal.returns-clause-step
 returns-clause-step c =
     let clock : nth c.args.number c.self.inside.clocks.items ≡ Some c.in_ok-clock.clock = subst (λ (l : List ℕ). nth c.args.number l ≡ Some c.in_ok-clock.clock) c.as_slice-2.ensures.value c.in_ok-clock.ensures.clock in
-    seen_by (Up c.args.number c.args.landed c.args.stop) [] c.args.self
+    let here : nth c.args.number c.args.self.hosts ≡ Some c.in_ok-taken.field-0 = subst (λ (s : Seen). nth c.args.number s.hosts ≡ Some c.in_ok-taken.field-0) c.self.view_is c.in_ok-taken.ensures.here in
+    seen_by c.args.armed (Up c.args.number c.args.landed c.args.stop) [] c.args.self
     (record { hosts = c.put_host.new.hosts.items; clocks = c.self.inside.clocks.items; letters = c.self.inside.letters.items }) _ c.self.view_is
     (starts c.args.number c.self.inside.hosts.items c.put_host.new.hosts.items c.self.inside.clocks.items c.self.inside.letters.items c.in_ok-taken.field-0 c.in_ok-host.host c.in_ok-taken.ensures.here
-    (c.in_ok-put_host.ensures.put ∙ c.in_ok-taken.ensures.place c.in_ok-host.host) c.in_ok-is_up.field-0
+    (c.in_ok-put_host.ensures.put ∙ c.in_ok-taken.ensures.place c.in_ok-host.host) c.args.armed c.in_ok-is_up.field-0
     c.args.landed c.args.stop c.in_ok-clock.clock c.into_parts-node.result.1 c.in-Ok.base
-    (up_at c.self.inside.hosts.items c.as_slice.result.now c.args.number c.in_ok-is_up.field-0 c.as_slice.ensures.value c.in_ok-is_up.ensures.up) c.if-branch.false clock
+    (up_at c.self.inside.hosts.items c.as_slice.result.now c.args.number c.in_ok-is_up.field-0 c.as_slice.ensures.value c.in_ok-is_up.ensures.up) c.if-branch.false (c.requires c.in_ok-taken.field-0 here) clock
     c.in-Ok.ensures c.into_parts-node.ensures.1 c.in_ok-host.ensures.started)
 
 pub invariant_of-result : goal.invariant_of-result
@@ -30,7 +31,7 @@ invariant_of-result c =
 
 pub returns-then-branch-clause-step : goal.returns-then-branch-clause-step
 returns-then-branch-clause-step c =
-    rests_up c.args.self c.args.number c.args.landed c.args.stop c.in_ok-is_up.field-0
+    rests_up c.args.armed c.args.self c.args.number c.args.landed c.args.stop c.in_ok-is_up.field-0
     (up_at c.args.self.hosts c.as_slice.result.now c.args.number c.in_ok-is_up.field-0 (c.as_slice.ensures.value ∙ ap (λ (s : Seen). s.hosts) c.self.view_is) c.in_ok-is_up.ensures.up) c.if-branch.true
 
 pub returns-in_err-host-clause-possible : goal.returns-in_err-host-clause-possible

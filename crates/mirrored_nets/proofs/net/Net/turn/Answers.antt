@@ -8,7 +8,7 @@ use Rattle.world_laws.specs.Events.{input_of}
 use Rattle.mirrored_nets.specs.Goings.{IsBrought, ms_of}
 use Rattle.mirrored_nets.specs.PossibleMoves.{MayCome}
 use Rattle.mirrored_nets.specs.StruckTurns.{IsStruckTurn}
-use Rattle.mirrored_nets.specs.Took.{TookTurn}
+use Rattle.mirrored_nets.specs.NetSteps.{TookTurnBy}
 use Rattle.mirrored_nets.specs.Seen.{Seen}
 use Rattle.mirrored_nets.proofs.BroughtLines.{clock_fits}
 use Rattle.mirrored_nets.proofs.NetEvents.{rests_down, room_set, seen_by, serve_on, still_isnt, turns, up_at}
@@ -19,7 +19,7 @@ use Rattle.mirrored_nets.proofs.net.Net.turn.Goals as goal
 
 pub returns-then-not-branch-clause-step : goal.returns-then-not-branch-clause-step
 returns-then-not-branch-clause-step c =
-    rests_down c.args.raw.now c.args.self c.args.number (Turn c.args.number (input_of c.args.input) c.args.fates.now c.args.until) c.in_ok-is_up.field-0 refl
+    rests_down c.args.armed c.args.raw.now c.args.self c.args.number (Turn c.args.number (input_of c.args.input) c.args.fates.now c.args.until) c.in_ok-is_up.field-0 refl
     (up_at c.args.self.hosts c.as_slice.result.now c.args.number c.in_ok-is_up.field-0 (c.as_slice.ensures.value ∙ ap (λ (s : Seen). s.hosts) c.self.view_is) c.in_ok-is_up.ensures.up) c.if-not-branch.true tt
 
 pub take-requires-clause-serving : goal.take-requires-clause-serving
@@ -36,7 +36,7 @@ invariant_of-result c =
     serve_on c.args.number c.in_ok-host.host c.self.inside.hosts.items c.put_host.new.hosts.items c.self.invariant
     (turned_serves c.links_hold.ensures c.args.number c.in_ok-count.count c.in_ok-brought.brought.lines _ c.in_ok-node.node c.set.result c.in_ok-host.host _ _ c.args.fates.now c.args.until
     (there_runs c.args.number c.self.inside.hosts.items c.in_ok-node.node c.in_ok-node.site c.self.invariant there)
-    (c.set.ensures.set.told (there_ready c.args.number c.self.inside.hosts.items there.0 c.in_ok-node.site c.self.invariant there.1 there.3)) c.in_ok-host.ensures.took)
+    (c.set.ensures.set.told (there_ready c.args.number c.self.inside.hosts.items there.0 c.in_ok-node.site c.self.invariant there.1 there.3)) c.in_ok-host.ensures.took.0)
     (c.in_ok-put_host.ensures.put ∙ c.in_ok-node.ensures.place c.in_ok-host.host)
 
 pub returns-clause-step : goal.returns-clause-step
@@ -46,14 +46,14 @@ returns-clause-step c =
     let brought : IsBrought (map mail_of c.self.inside.letters.items) c.args.number (input_of c.args.input) c.in_ok-brought.brought.lines c.in_ok-brought.brought.bytes.items =
     subst (λ (l : List Letter). IsBrought (map mail_of l) c.args.number (input_of c.args.input) c.in_ok-brought.brought.lines c.in_ok-brought.brought.bytes.items) c.as_slice-4.ensures.value c.in_ok-brought.ensures.brought in
     let later : c.in-Some.now ≡ c.in_ok-clock.clock + ms_of (input_of c.args.input) = c.in-Some.ensures.1 ∙ ap (λ k. c.in_ok-clock.clock + k) c.ms_of.ensures in
-    let took : TookTurn c.args.number c.in_ok-count.count c.in_ok-brought.brought.lines c.in_ok-brought.brought.bytes.items c.in_ok-node.node c.set.result c.in_ok-host.host (map mail_of c.self.inside.letters.items)
+    let took : TookTurnBy c.args.armed c.args.number c.in_ok-count.count c.in_ok-brought.brought.lines c.in_ok-brought.brought.bytes.items c.in_ok-node.node c.set.result c.in_ok-host.host (map mail_of c.self.inside.letters.items)
     (map mail_of c.take.new.letters.items) c.args.fates.now c.args.until =
-    subst (λ (b : List ℕ). TookTurn c.args.number c.in_ok-count.count c.in_ok-brought.brought.lines b c.in_ok-node.node c.set.result c.in_ok-host.host (map mail_of c.self.inside.letters.items)
+    subst (λ (b : List ℕ). TookTurnBy c.args.armed c.args.number c.in_ok-count.count c.in_ok-brought.brought.lines b c.in_ok-node.node c.set.result c.in_ok-host.host (map mail_of c.self.inside.letters.items)
     (map mail_of c.take.new.letters.items) c.args.fates.now c.args.until) c.as_slice-5.ensures.value c.in_ok-host.ensures.took in
-    seen_by (Turn c.args.number (input_of c.args.input) c.args.fates.now c.args.until) c.args.raw.now c.args.self
+    seen_by c.args.armed (Turn c.args.number (input_of c.args.input) c.args.fates.now c.args.until) c.args.raw.now c.args.self
     (record { hosts = c.put_host.new.hosts.items; clocks = c.put_clock.new.clocks.items; letters = c.take.new.letters.items }) _ c.self.view_is
     (turns c.args.number c.self.inside.hosts.items c.put_host.new.hosts.items c.self.inside.clocks.items c.self.inside.letters.items there.0 c.in_ok-host.host there.1
-    (c.in_ok-put_host.ensures.put ∙ c.in_ok-node.ensures.place c.in_ok-host.host) c.in_ok-node.node c.in_ok-clock.clock c.in_ok-count.count c.in-Some.now c.in_ok-brought.brought.lines (input_of c.args.input)
+    (c.in_ok-put_host.ensures.put ∙ c.in_ok-node.ensures.place c.in_ok-host.host) c.args.armed c.in_ok-node.node c.in_ok-clock.clock c.in_ok-count.count c.in-Some.now c.in_ok-brought.brought.lines (input_of c.args.input)
     c.in_ok-brought.brought.bytes.items c.args.raw.now c.in_ok-node.site c.set.result c.put_clock.new.clocks.items c.take.new.letters.items c.args.fates.now c.args.until there.2 clock
     (c.in_ok-count.ensures.count ∙ ap (λ (l : List Host). length l) c.as_slice-2.ensures.value) brought c.in_ok-brought.ensures.given later there.3 c.set.ensures.set took c.in_ok-put_clock.ensures.put)
 

@@ -1,0 +1,2 @@
+pub mod FollowedEvents
+pub mod Meetings

@@ -1,0 +1,13 @@
+pub mod AskedFiles
+pub mod CutFiles
+pub mod DownFiles
+pub mod FallenFiles
+pub mod HaltedFiles
+pub mod MovesFollowed
+pub mod NetsFollowed
+pub mod RewrittenRows
+pub mod RewrittenTurns
+pub mod StartedFiles
+pub mod StayedFiles
+pub mod UnmovedFiles
+pub mod WorldViews

@@ -1,0 +1,2 @@
+pub mod NetsFollow
+pub mod MovesFollow
