@@ -56,15 +56,20 @@ fn chains_of_subordinates(rt: HostRuntime) -> Result<(), Fail> {
     Ok(())
 }
 
-/// A transaction of node 1 that commits, whose activity has this number, with so many durable participants at node 2, where its
-/// root is too.
-fn transaction(alloc: Global, number: u32, participants: u32) -> Result<String, AllocError> {
+/// A transaction of node 1 that is to commit, whose activity has this number, with so many durable participants at node 2, where
+/// its root is too; and behind that these lines.
+fn transaction(
+    alloc: Global,
+    number: u32,
+    participants: u32,
+    behind: &str,
+) -> Result<String, AllocError> {
     let mut lines = String::from_str(alloc, "begin 1 2 60000\nflush 999\n")?;
     let work = format!(in alloc; "work 1 1-{number} 2 d prepared\n")?;
     for _ in 0..participants {
         lines.push_str(work.as_str())?;
     }
-    let end = format!(in alloc; "flush 999\ncommit 1 1-{number}\nflush 999\n")?;
+    let end = format!(in alloc; "flush 999\ncommit 1 1-{number}\n{behind}")?;
     lines.push_str(end.as_str())?;
     Ok(lines)
 }
@@ -73,7 +78,7 @@ fn transaction(alloc: Global, number: u32, participants: u32) -> Result<String, 
 fn transactions(alloc: Global, count: u32, participants: u32) -> Result<String, AllocError> {
     let mut schedule = String::from_str(alloc, "nodes 2\n")?;
     for number in 0..count {
-        let lines = transaction(alloc, number.saturating_add(1), participants)?;
+        let lines = transaction(alloc, number.saturating_add(1), participants, "flush 999\n")?;
         schedule.push_str(lines.as_str())?;
     }
     Ok(schedule)
@@ -92,6 +97,63 @@ fn a_journal_is_written_anew(rt: HostRuntime) -> Result<(), Fail> {
     let last = "end messages 5698 committed 704 aborted 0 lost 0\n";
     let right = ends_with(rt.alloc(), 11, 64, last)?;
     assert!(rt; right);
+    Ok(())
+}
+
+/// Faults at the calls by which the journal of node 2 is written anew, in the commit of the eleventh transaction, at whose 18th vote it passes
+/// 65,536 bytes: such a turn has six calls before them, and one behind a start 24. The first five calls fail, one in each turn, and then the
+/// node stops at one in each; at the last stop the new journal stands, so that the call that is armed then comes in the next turn alone.
+const REWRITINGS: &str = "\
+flush 18\n\
+fail 2 7\nflush 1\n\
+fail 2 8\nflush 1\n\
+fail 2 8\nflush 1\n\
+fail 2 9\nflush 1\n\
+fail 2 10\nflush 1\nup 2\n\
+stop 2 25 keep\nflush 1\nup 2\n\
+stop 2 26 drop\nflush 1\nup 2\n\
+stop 2 27 fill 1\nflush 1\nup 2\n\
+stop 2 28 drop\nflush 1\nup 2\n\
+stop 2 29 fill 0\nflush 1\nup 2\n\
+stop 2 28 fill 1\nflush 1\nup 2\n\
+stop 2 25 keep\nflush 2\n\
+";
+
+/// Lines of its report.
+const REWRITTEN: &[&str] = &[
+    "\ndeliver 5459 2 202\n",
+    "\ndeliver 5460 2 202\n",
+    "\ndeliver 5461 2 202\n",
+    "\ndeliver 5462 2 202\n",
+    "\ndeliver 5463 2 halted\n",
+    "\ndeliver 5464 2 stopped\n",
+    "\ndeliver 5465 2 stopped\n",
+    "\ndeliver 5466 2 stopped\n",
+    "\ndeliver 5467 2 stopped\n",
+    "\ndeliver 5468 2 stopped\n",
+    "\ndeliver 5469 2 stopped\n",
+    "\ndeliver 5470 2 202\n",
+    "\ndeliver 5471 2 stopped\n",
+];
+
+fn rewritings(alloc: Global) -> Result<Vec<u8>, AllocError> {
+    let mut schedule = transactions(alloc, 10, 64)?;
+    let last = transaction(alloc, 11, 64, REWRITINGS)?;
+    schedule.push_str(last.as_str())?;
+    printed(alloc, "replay", schedule.as_bytes())
+}
+
+fn has_line(report: &[u8], line: &str) -> bool {
+    text_of(report).contains(line)
+}
+
+#[test]
+fn faults_of_a_journal_that_is_written_anew(rt: HostRuntime) -> Result<(), Fail> {
+    let report = rewritings(rt.alloc())?;
+    for line in REWRITTEN {
+        let there = has_line(report.as_slice(), line);
+        assert!(rt; there, "{line}");
+    }
     Ok(())
 }
 

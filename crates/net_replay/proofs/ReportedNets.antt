@@ -1,14 +1,13 @@
 -- Reports of nodes that ran in memory.
 use Rattle.std.specs.Prelude.{ℕ, List, Option, ◌≡◌, ◌≤◌, length, map}
 use Rattle.std.proofs.Common.{refl, subst, sym}
-use Rattle.at_model.specs.World.{example_hosts, opening}
+use Rattle.at_model.specs.World.{example_hosts}
 use Rattle.memory_net.specs.Mails.{mail_of}
 use Rattle.mirrored_nets.specs.Seen.{Seen}
 use Rattle.raw_requests.specs.declared.Drawn.{Drawn}
 use Rattle.replay_cmd.specs.EventCounts.{HasTooManyEvents}
 use Rattle.possible_courses.specs.PossibleCourses.{CoursesArePossible, IsPossibleCourse}
 use Rattle.possible_courses.specs.ScheduleLines.{AreWithin}
-use Rattle.possible_events.specs.PossibleEvents.{ArePossible}
 use Rattle.replay_cmd.specs.Laws.{AreDrawn, IsReplayable, ReportsAreSafe}
 use Rattle.replay_cmd.specs.ReportOf.{Course, course_with, nodes_of, whole}
 use Rattle.settling.proofs.Runs.{run_length}
@@ -22,10 +21,10 @@ pub is_course : (options : Options) (all : List Line) (draws : List (Option Draw
 is_course options all draws c are is = record { draws = draws; are = are; is = is }
 
 pub is_report : (options : Options) (all : List Line) (c : Course) (text : List ℕ) (net : Seen) → IsCourseOf options all c → text ≡ shown options.bytes (map mail_of net.letters) (whole c)
-    → IsNetRun (length c.world.nodes) c.world c.events c.raws net → IsNetReport options all text net
+    → IsNetRun (length c.world.nodes) c.world c.events c.raws c.met net → IsNetReport options all text net
 is_report options all c text net of is run = record { course = c; of = of; is = is; run = run }
 
-pub has_no_room : (options : Options) (all : List Line) (c : Course) (count : ℕ) → IsCourseOf options all c → IsNetFull count c.events c.raws → HasNoRoom options all
+pub has_no_room : (options : Options) (all : List Line) (c : Course) (count : ℕ) → IsCourseOf options all c → IsNetFull count c.events c.raws c.met → HasNoRoom options all
 has_no_room options all c count of full = record { course = c; of = of; count = count; full = full }
 
 pub takes_too_many : (options : Options) (all : List Line) (draws : List (Option Drawn)) → AreDrawn all draws → HasTooManyEvents (course_with options.settle draws all)
@@ -33,9 +32,9 @@ pub takes_too_many : (options : Options) (all : List Line) (draws : List (Option
 takes_too_many options all draws are many =
     record { course = course_with options.settle draws all; of = record { draws = draws; are = are; is = refl }; many = many }
 
--- the events of a schedule can be done
+-- the events of a schedule can be done, and lead to its world
 pub possible : ReportsAreSafe → CoursesArePossible → (options : Options) (all : List Line) (c : Course) → IsReplayable all → IsCourseOf options all c → AreWithin (nodes_of all) all
-    → length c.events ≤ 4294967295 → ArePossible (length c.world.nodes) (opening (example_hosts (length c.world.nodes))) c.events c.raws c.met
+    → length c.events ≤ 4294967295 → IsPossibleCourse (length c.world.nodes) c
 possible safe law options all c replayable of within few =
     let D = course_with options.settle of.draws all in
     let run = (safe options.settle of.draws all replayable).of_run in

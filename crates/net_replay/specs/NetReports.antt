@@ -23,14 +23,14 @@ pub record IsNetReport (options : Options) (all : List Line) (text : List ℕ) (
   pub course : Course
   pub of : IsCourseOf options all course
   pub is : text ≡ shown options.bytes (map mail_of net.letters) (whole course)
-  pub run : IsNetRun (length course.world.nodes) course.world course.events course.raws net
+  pub run : IsNetRun (length course.world.nodes) course.world course.events course.raws course.met net
 
 -- There is no report: on the way the journal of a node has no room for another record.
 pub record HasNoRoom (options : Options) (all : List Line) : Type 0 where
   pub course : Course
   pub of : IsCourseOf options all course
   pub count : ℕ
-  pub full : IsNetFull count course.events course.raws
+  pub full : IsNetFull count course.events course.raws course.met
 
 -- There is no report: what happens in it is more than a world takes.
 pub record TakesTooManyEvents (options : Options) (all : List Line) : Type 0 where

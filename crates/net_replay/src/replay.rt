@@ -59,7 +59,7 @@ fn print(
     shown(alloc, report, letters, bytes)
 }
 
-#[tactic(auto, using(crate::proofs::ReportedNets::is_report, crate::proofs::ReportedNets::has_no_room, crate::proofs::ReportedNets::possible))]
+#[tactic(auto, using(crate::proofs::ReportedNets::has_no_room, crate::proofs::ReportedNets::possible))]
 fn with_nodes(alloc: Global, schedule: &Schedule, options: Options) -> Result<Replayed, ReplayError>
     requires replayable { IsReplayable schedule.now }
     requires within { AreWithin (nodes_of schedule.now) schedule.now }

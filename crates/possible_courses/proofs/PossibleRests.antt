@@ -2,11 +2,14 @@
 use Rattle.std.proofs.Common.{ℕ, zero, suc, ◌+◌, ◌<◌, ◌≤◌, ◌≡◌, false, refl, List, [], ◌∷◌, ◌++◌, length, drop, ap, ◌∙◌, sym, subst, arith}
 use Rattle.std.specs.Prelude.{Option, Some, None}
 use Rattle.std.proofs.lemmas.List.{append-nil, append_assoc}
-use Rattle.armed_calls.specs.declared.fault.Armed.{Armed}
+use Rattle.armed_calls.specs.declared.meeting.Meeting.{Meeting}
+use Rattle.armed_calls.specs.declared.meeting.Meeting.TheVariants as meetings
 use Rattle.at_base.specs.declared.limits.TheConstants.{RESEND_AFTER}
 use Rattle.at_model.specs.Book.{Book}
-use Rattle.at_model.specs.World.{Node, Posted, World, WorldEvent, example_hosts, nth}
+use Rattle.at_model.specs.World.{Node, Posted, World, WorldEvent, example_hosts, node_of, nth}
 use Rattle.at_model.specs.Views.{deliver_to, tick_at, up}
+use Rattle.followed_events.specs.Meetings.{file_at, files_behind}
+use Rattle.live_files.specs.LiveFiles.{LiveFile}
 use Rattle.model_laws.specs.Settlement.{Settling, all_also, all_up, also, deliver_next, deliveries_from, first_received, most_deliveries, settle, settle_from, settle_round, settle_rounds, settled, ticks, up_if, ups, waiting}
 use Rattle.possible_events.specs.BroughtBytes.{is_raw}
 use Rattle.schedules.specs.Values.{largest}
@@ -15,7 +18,7 @@ use Rattle.settling.proofs.Places.{nth_drop}
 use Rattle.settling.proofs.Runs.{run_length}
 use Rattle.world_laws.specs.Moves.{seen}
 use Rattle.world_laws.specs.Runs.{IsFit}
-use Rattle.possible_courses.proofs.PossibleRuns.{IsPossibleRun, MayCome, ModelLaws, WerePossible, calm_delivery, calm_tick, calm_up, step_without}
+use Rattle.possible_courses.proofs.PossibleRuns.{IsPossibleRun, MayCome, ModelLaws, calm_delivery, calm_tick, calm_up, step_without}
 
 -- the first message that has a receiver
 record IsReceived (ps : List Posted) (k n : ℕ) : Type 0 where
@@ -34,36 +37,38 @@ next_is passed ps k n e =
     }
 
 -- no call comes in any of these
-abbrev pub none_in : List WorldEvent → List (Option Armed)
+abbrev pub none_in : List WorldEvent → List Meeting
 none_in [] = []
-none_in (e ∷ es) = None ∷ none_in es
+none_in (e ∷ es) = meetings.Nothing ∷ none_in es
 
-none_more : (met : List (Option Armed)) (es : List WorldEvent) (e : WorldEvent) → (met ++ none_in es) ++ None ∷ [] ≡ met ++ none_in (es ++ e ∷ [])
+none_more : (met : List Meeting) (es : List WorldEvent) (e : WorldEvent) → (met ++ none_in es) ++ meetings.Nothing ∷ [] ≡ met ++ none_in (es ++ e ∷ [])
 none_more [] [] e = refl
-none_more [] (x ∷ es) e = ap (λ l. None ∷ l) (none_more [] es e)
+none_more [] (x ∷ es) e = ap (λ l. meetings.Nothing ∷ l) (none_more [] es e)
 none_more (m ∷ ms) es e = ap (λ l. m ∷ l) (none_more ms es e)
 
-module _ (count : ℕ) (laws : ModelLaws) (front : List WorldEvent) (raws : List (List ℕ)) (met : List (Option Armed)) where
+module _ (count : ℕ) (laws : ModelLaws) (front : List WorldEvent) (raws : List (List ℕ)) (met : List Meeting) where
   -- behind the events before it began
   abbrev IsOn : Settling → Type 0
-  IsOn s = IsPossibleRun count s.world (front ++ s.events) raws (met ++ none_in s.events)
+  IsOn s = (files : List LiveFile) × IsPossibleRun count s.world files (front ++ s.events) raws (met ++ none_in s.events)
 
   also_on : (e : WorldEvent) (s : Settling) → IsOn s → is_raw e ≡ false
-      → (length (front ++ s.events) < largest → IsFit (length (front ++ s.events)) (seen s.world) → MayCome count s.world e [] None) → IsOn (also e s)
-  also_on e s h none may =
-      subst (λ all. IsPossibleRun count (also e s).world (front ++ (s.events ++ e ∷ [])) raws all) (none_more met s.events e)
-      (subst (λ es. IsPossibleRun count (also e s).world es raws ((met ++ none_in s.events) ++ None ∷ [])) (append_assoc front s.events (e ∷ []))
-      (step_without count laws s.world (front ++ s.events) e raws (met ++ none_in s.events) None h none may))
+      → ((f : LiveFile) → length (front ++ s.events) < largest → IsFit (length (front ++ s.events)) (seen s.world) → MayCome count s.world f e [] meetings.Nothing) → IsOn (also e s)
+  also_on e s (files, h) none may = (
+    files_behind meetings.Nothing s.world e files,
+    subst (λ all. IsPossibleRun count (also e s).world (files_behind meetings.Nothing s.world e files) (front ++ (s.events ++ e ∷ [])) raws all) (none_more met s.events e)
+        (subst (λ es. IsPossibleRun count (also e s).world (files_behind meetings.Nothing s.world e files) es raws ((met ++ none_in s.events) ++ meetings.Nothing ∷ [])) (append_assoc front s.events (e ∷ []))
+        (step_without count laws s.world files (front ++ s.events) e raws (met ++ none_in s.events) meetings.Nothing h (λ z. absurd cc) none (may (file_at (node_of e) files)))),
+  )
 
   nodes_on : (s : Settling) → IsOn s → length s.world.nodes ≡ count
-  nodes_on s h = run_length (example_hosts count) s.world (record { events = front ++ s.events; is = h.run })
+  nodes_on s (files, h) = run_length (example_hosts count) s.world (record { events = front ++ s.events; is = h.run })
 
   ups_on : (n : ℕ) (xs : List Node) (s : Settling) → 1 ≤ n → n + length xs ≤ count + 1 → IsOn s → IsOn (all_also (ups n xs) s)
   ups_on n [] s least most h = h
   ups_on n (x ∷ xs) s least most h = by_book x.book (λ t k. ups_on (n + 1) xs t (omega arith) (omega (arith, most)) k)
     where
       by_book : (o : Option Book) → ((t : Settling) → IsOn t → IsOn (all_also (ups (n + 1) xs) t)) → IsOn (all_also (up_if n o ++ ups (n + 1) xs) s)
-      by_book None rest = rest (also (up n) s) (also_on (up n) s h refl (λ few fit. calm_up count s.world n (length (front ++ s.events)) (least, omega (arith, most)) few h.early))
+      by_book None rest = rest (also (up n) s) (also_on (up n) s h refl (λ f few fit. calm_up count s.world f n (length (front ++ s.events)) (least, omega (arith, most)) few h.1.early))
       by_book (Some b) rest = rest s h
 
   ticks_on : (n : ℕ) (xs : List Node) (s : Settling) → 1 ≤ n → n + length xs ≤ count + 1 → IsOn s → IsOn (all_also (ticks n xs) s)
@@ -71,7 +76,7 @@ module _ (count : ℕ) (laws : ModelLaws) (front : List WorldEvent) (raws : List
   ticks_on n (x ∷ xs) s least most h =
       ticks_on (n + 1) xs (also (tick_at n RESEND_AFTER) s) (omega arith) (omega (arith, most))
       (also_on (tick_at n RESEND_AFTER) s h refl
-      (λ few fit. calm_tick count s.world n RESEND_AFTER (length (front ++ s.events)) (least, omega (arith, most)) (omega arith) few fit))
+      (λ f few fit. calm_tick count s.world f n RESEND_AFTER (length (front ++ s.events)) (least, omega (arith, most)) (omega arith) few fit))
 
   deliveries_on : (most passed : ℕ) (s : Settling) → IsOn s → IsOn (deliveries_from most passed s)
   unfolding deliveries_from
@@ -85,7 +90,7 @@ module _ (count : ℕ) (laws : ModelLaws) (front : List WorldEvent) (raws : List
       by_next rest (Some p) e =
           let f : IsReceived s.world.posted p.0 p.1 = next_is passed s.world.posted p.0 p.1 e in
           rest p.0 (also (deliver_to p.1 p.0) s)
-          (also_on (deliver_to p.1 p.0) s h refl (λ few fit. calm_delivery count s.world (front ++ s.events) h.run p.0 f.post f.at p.1 f.receiver))
+          (also_on (deliver_to p.1 p.0) s h refl (λ g few fit. calm_delivery count s.world g (front ++ s.events) h.1.run p.0 f.post f.at p.1 f.receiver))
 
   round_on : (most : ℕ) (s : Settling) → IsOn s → IsOn (settle_round most s)
   unfolding settle_round
@@ -104,8 +109,7 @@ module _ (count : ℕ) (laws : ModelLaws) (front : List WorldEvent) (raws : List
       rounds_on 8 (most_deliveries (waiting (all_up w).world)) (all_up w)
       (ups_on 1 w.nodes (record { world = w; events = [] }) (omega arith) (omega (arith, nodes_on (record { world = w; events = [] }) h)) h)
 
-  pub settle_possible : (w : World) → IsPossibleRun count w front raws met → length (front ++ settle w) ≤ largest
-      → WerePossible count (settled w).world (front ++ settle w) raws (met ++ none_in (settle w))
+  pub settle_possible : (w : World) (files : List LiveFile) → IsPossibleRun count w files front raws met → length (front ++ settle w) ≤ largest → IsOn (settled w)
   unfolding settle
-  settle_possible w h few =
-      (settled_on w (subst (λ all. IsPossibleRun count w (front ++ []) raws all) (sym (append-nil met)) (subst (λ es. IsPossibleRun count w es raws met) (sym (append-nil front)) h))).were few
+  settle_possible w files h few =
+      settled_on w (files, subst (λ all. IsPossibleRun count w files (front ++ []) raws all) (sym (append-nil met)) (subst (λ es. IsPossibleRun count w files es raws met) (sym (append-nil front)) h))

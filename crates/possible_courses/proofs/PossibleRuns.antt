@@ -1,12 +1,16 @@
 -- Runs of which each event is possible where it comes, with one event more.
 use Rattle.std.proofs.Common.{ℕ, ◌+◌, ◌-◌, ◌<◌, ◌≤◌, ◌≡◌, refl, List, [], ◌∷◌, ◌++◌, length, drop, ap, ◌∙◌, sym, subst, arith, inl, inr, Bool, true, false}
 use Rattle.std.specs.Prelude.{Option, Some, None, nat_eq, option_map, if◌then◌else◌}
-use Rattle.std.proofs.lemmas.List.{append-nil, length-append}
+use Rattle.std.proofs.lemmas.List.{append-nil, append_assoc, length-append}
 use Rattle.armed_calls.specs.declared.fault.Armed.{Armed}
+use Rattle.armed_calls.specs.declared.meeting.Meeting.{Meeting}
+use Rattle.armed_calls.specs.declared.meeting.Meeting.TheVariants as meetings
 use Rattle.at_base.specs.declared.epr.Epr.{Epr}
 use Rattle.at_base.specs.declared.target.Target.{Target}
 use Rattle.at_model.specs.Views.{deliver_to, tick_at, up}
-use Rattle.at_model.specs.World.{Ask, Crash, Deliver, Posted, Raw, Tick, Turn, Up, World, WorldEvent, example_base, example_hosts, new_nodes, nth, opening, place_of, receiver_of, run_of, run_on, world_step}
+use Rattle.at_model.specs.World.{Ask, Crash, Deliver, Posted, Raw, Tick, Turn, Up, World, WorldEvent, example_base, example_hosts, new_nodes, node_of, nth, opening, place_of, receiver_of, run_of, run_on, world_step}
+use Rattle.followed_events.specs.Meetings.{ends_anew, events_by, file_at, files_behind, meetings_by, next_met, world_behind, worlds_behind}
+use Rattle.live_files.specs.LiveFiles.{LiveFile}
 use Rattle.model_laws.specs.Agreement.{IsIn}
 use Rattle.model_laws.specs.DrawnIds.{IdsStayDrawn}
 use Rattle.model_laws.specs.Growth.{TakesNothingBack}
@@ -15,7 +19,8 @@ use Rattle.model_laws.specs.MadeIds.{MakesNoIdTwice}
 use Rattle.model_laws.specs.Order.{IdsRise}
 use Rattle.model_laws.proofs.Addresses.{place_is}
 use Rattle.possible_events.specs.BroughtBytes.{first_of, is_raw}
-use Rattle.possible_events.specs.PossibleEvents.{ArePossible, CanCome, IsPossible, IsThere, one_call}
+use Rattle.possible_events.specs.PossibleEvents.{ArePossible, CanCome, CanMeet, IsPossible, IsPossibleAnew, IsThere, one_call}
+use Rattle.replay_cmd.specs.ReportOf.{none_started}
 use Rattle.schedules.specs.Values.{largest}
 use Rattle.settled.proofs.Routes.{routed}
 use Rattle.settling.proofs.Places.{all_nth}
@@ -62,24 +67,25 @@ pub tick_comes : (w : World) (n ms ticks : ℕ) → ms ≤ largest → ticks < l
 tick_comes w n ms ticks short few fit =
     (λ x found. let node : IsNode ticks x = all_nth (IsNode ticks) n x w.nodes fit.each found in omega (arith, node.clock, short, few), refl)
 
--- An event that is possible with these bytes, if it brings some, and this call; no more time goes by than in the longest tick.
-pub record MayCome (count : ℕ) (w : World) (e : WorldEvent) (given : List (List ℕ)) (a : Option Armed) : Type 0 where
-  pub possible : IsPossible count w e (first_of given) a
+-- An event that is possible with these bytes, if it brings some, and what it meets, at a node of whose journal that is followed; no more time goes by than
+-- in the longest tick.
+pub record MayCome (count : ℕ) (w : World) (f : LiveFile) (e : WorldEvent) (given : List (List ℕ)) (m : Meeting) : Type 0 where
+  pub possible : CanMeet count w f e (first_of given) m
   pub short : ms_of e ≤ largest
 
 -- a start behind few events, a tick and a delivery that no call is to meet
-pub calm_up : (count : ℕ) (w : World) (n k : ℕ) → IsThere count n → k < largest → AreEarly k w → MayCome count w (up n) [] None
-calm_up count w n k there few early = record {
+pub calm_up : (count : ℕ) (w : World) (f : LiveFile) (n k : ℕ) → IsThere count n → k < largest → AreEarly k w → MayCome count w f (up n) [] meetings.Nothing
+calm_up count w f n k there few early = record {
   possible = (there, inl (refl, refl, λ x found. let before : IsEarly k x = all_nth (IsEarly k) n x w.nodes early found in omega (arith, few, before)));
   short = omega arith;
 }
 
-pub calm_tick : (count : ℕ) (w : World) (n ms ticks : ℕ) → IsThere count n → ms ≤ largest → ticks < largest → IsFit ticks (seen w) → MayCome count w (tick_at n ms) [] None
-calm_tick count w n ms ticks there short few fit = record { possible = (there, (0, tick_comes w n ms ticks short few fit, inl (refl, refl))); short = short }
+pub calm_tick : (count : ℕ) (w : World) (f : LiveFile) (n ms ticks : ℕ) → IsThere count n → ms ≤ largest → ticks < largest → IsFit ticks (seen w) → MayCome count w f (tick_at n ms) [] meetings.Nothing
+calm_tick count w f n ms ticks there short few fit = record { possible = (there, (0, tick_comes w n ms ticks short few fit, inl (refl, refl))); short = short }
 
-pub calm_delivery : (count : ℕ) (w : World) (es : List WorldEvent) → w ≡ run_of (example_hosts count) es → (k : ℕ) (p : Posted) → nth k w.posted ≡ Some p → (n : ℕ) → p.receiver ≡ Some n
-    → MayCome count w (deliver_to n k) [] None
-calm_delivery count w es run k p at n to =
+pub calm_delivery : (count : ℕ) (w : World) (f : LiveFile) (es : List WorldEvent) → w ≡ run_of (example_hosts count) es → (k : ℕ) (p : Posted) → nth k w.posted ≡ Some p → (n : ℕ) → p.receiver ≡ Some n
+    → MayCome count w f (deliver_to n k) [] meetings.Nothing
+calm_delivery count w f es run k p at n to =
     let come = delivery_comes count w es run k p at n to in
     record { possible = (come.0, (0, come.1, inl (refl, refl))); short = omega arith }
 
@@ -101,28 +107,64 @@ any_bytes count w (Ask n l fates until) r s a none h = h
 any_bytes count w (Crash n) r s a none h = h
 any_bytes count w (Up n landed stop) r s a none h = h
 
+any_anew : (count : ℕ) (w : World) (f : LiveFile) (e : WorldEvent) (r s : List ℕ) (a : Armed) (call : ℕ) → is_raw e ≡ false → IsPossibleAnew count w f e r a call → IsPossibleAnew count w f e s a call
+any_anew count w f (Turn n (Deliver k) fates until) r s a call none h = h
+any_anew count w f (Turn n (Tick ms) fates until) r s a call none h = h
+any_anew count w f (Turn n Raw fates until) r s a call none h = absurd cc
+any_anew count w f (Ask n l fates until) r s a call none h = h
+any_anew count w f (Crash n) r s a call none h = h
+any_anew count w f (Up n landed stop) r s a call none h = h
+
+any_given : (count : ℕ) (w : World) (f : LiveFile) (e : WorldEvent) (r s : List ℕ) (m : Meeting) → is_raw e ≡ false → CanMeet count w f e r m → CanMeet count w f e s m
+any_given count w f e r s meetings.Nothing none h = any_bytes count w e r s None none h
+any_given count w f e r s (meetings.Call a) none h = any_bytes count w e r s (Some a) none h
+any_given count w f e r s (meetings.Anew a call) none h = any_anew count w f e r s a call none h
+any_given count w f e r s meetings.Ended none h = tt
+
+-- what is followed behind events that met these
+abbrev pub files_after : World → List LiveFile → List WorldEvent → List Meeting → List LiveFile
+files_after w files [] met = files
+files_after w files (e ∷ es) met = files_after (world_behind (next_met met) w e) (files_behind (next_met met) w e files) es (drop 1 met)
+
 -- one behind others, with what it brings behind what those brought
-append_possible : (count : ℕ) (w : World) (es : List WorldEvent) (e : WorldEvent) (raws given : List (List ℕ)) (met : List (Option Armed)) (a : Option Armed)
-    → raw_count es ≡ length raws → length met ≡ length es → ArePossible count w es raws met → IsPossible count (run_on w es) e (first_of given) a
-    → ArePossible count w (es ++ e ∷ []) (raws ++ given) (met ++ a ∷ [])
-append_possible count w [] e [] given [] a bytes calls h k = (k, tt)
-append_possible count w [] e (r ∷ rs) given met a bytes calls h k = absurd (omega (arith, bytes))
-append_possible count w [] e [] given (m ∷ ms) a bytes calls h k = absurd (omega (arith, calls))
-append_possible count w (x ∷ es) e raws given [] a bytes calls h k = absurd (omega (arith, calls))
-append_possible count w (x ∷ es) e raws given (m ∷ ms) a bytes calls (here, rest) k =
-    by_raw (λ left b r. append_possible count (world_step w x) es e left given ms a b (omega (arith, calls)) r k) (is_raw x) refl raws bytes here rest
+append_possible : (count : ℕ) (w : World) (files : List LiveFile) (es : List WorldEvent) (e : WorldEvent) (raws given : List (List ℕ)) (met : List Meeting) (m : Meeting)
+    → raw_count es ≡ length raws → length met ≡ length es → ArePossible count w files es raws met
+    → CanMeet count (worlds_behind w es met) (file_at (node_of e) (files_after w files es met)) e (first_of given) m → ArePossible count w files (es ++ e ∷ []) (raws ++ given) (met ++ m ∷ [])
+append_possible count w files [] e [] given [] m bytes calls h k = (k, tt)
+append_possible count w files [] e (r ∷ rs) given met m bytes calls h k = absurd (omega (arith, bytes))
+append_possible count w files [] e [] given (n ∷ ms) m bytes calls h k = absurd (omega (arith, calls))
+append_possible count w files (x ∷ es) e raws given [] m bytes calls h k = absurd (omega (arith, calls))
+append_possible count w files (x ∷ es) e raws given (n ∷ ms) m bytes calls (here, rest) k =
+    by_raw (λ left b r. append_possible count (world_behind n w x) (files_behind n w x files) es e left given ms m b (omega (arith, calls)) r k) (is_raw x) refl raws bytes here rest
   where
-    by_raw : ((left : List (List ℕ)) → raw_count es ≡ length left → ArePossible count (world_step w x) es left ms → ArePossible count (world_step w x) (es ++ e ∷ []) (left ++ given) (ms ++ a ∷ []))
-        → (t : Bool) → is_raw x ≡ t → (all : List (List ℕ)) → one_call t + raw_count es ≡ length all → IsPossible count w x (first_of all) m
-        → ArePossible count (world_step w x) es (if t then drop 1 all else all) ms
-        → IsPossible count w x (first_of (all ++ given)) m × ArePossible count (world_step w x) (es ++ e ∷ []) (if t then drop 1 (all ++ given) else all ++ given) (ms ++ a ∷ [])
+    Rest : List (List ℕ) → List WorldEvent → List Meeting → Type 0
+    Rest all fs more = ArePossible count (world_behind n w x) (files_behind n w x files) fs all more
+
+    by_raw : ((left : List (List ℕ)) → raw_count es ≡ length left → Rest left es ms → Rest (left ++ given) (es ++ e ∷ []) (ms ++ m ∷ []))
+        → (t : Bool) → is_raw x ≡ t → (all : List (List ℕ)) → one_call t + raw_count es ≡ length all → CanMeet count w (file_at (node_of x) files) x (first_of all) n
+        → Rest (if t then drop 1 all else all) es ms
+        → CanMeet count w (file_at (node_of x) files) x (first_of (all ++ given)) n × Rest (if t then drop 1 (all ++ given) else all ++ given) (es ++ e ∷ []) (ms ++ m ∷ [])
     by_raw more true is [] b f r = absurd (omega (arith, b))
     by_raw more true is (raw ∷ left) b f r = (f, more left (omega (arith, b)) r)
-    by_raw more false is all b f r = (any_bytes count w x (first_of all) (first_of (all ++ given)) m is f, more all (omega (arith, b)) r)
+    by_raw more false is all b f r = (any_given count w (file_at (node_of x) files) x (first_of all) (first_of (all ++ given)) n is f, more all (omega (arith, b)) r)
 
 run_append : (w : World) (es : List WorldEvent) (e : WorldEvent) → run_on w (es ++ e ∷ []) ≡ world_step (run_on w es) e
 run_append w [] e = refl
 run_append w (x ∷ es) e = run_append (world_step w x) es e
+
+-- the world, and what is followed, behind one event more
+worlds_append : (w : World) (es : List WorldEvent) (e : WorldEvent) (met : List Meeting) (m : Meeting) → length met ≡ length es → worlds_behind w (es ++ e ∷ []) (met ++ m ∷ []) ≡ world_behind m (worlds_behind w es met) e
+worlds_append w [] e [] m long = refl
+worlds_append w [] e (n ∷ ms) m long = absurd (omega (arith, long))
+worlds_append w (x ∷ es) e [] m long = absurd (omega (arith, long))
+worlds_append w (x ∷ es) e (n ∷ ms) m long = worlds_append (world_behind n w x) es e ms m (omega (arith, long))
+
+files_append : (w : World) (files : List LiveFile) (es : List WorldEvent) (e : WorldEvent) (met : List Meeting) (m : Meeting) → length met ≡ length es
+    → files_after w files (es ++ e ∷ []) (met ++ m ∷ []) ≡ files_behind m (worlds_behind w es met) e (files_after w files es met)
+files_append w files [] e [] m long = refl
+files_append w files [] e (n ∷ ms) m long = absurd (omega (arith, long))
+files_append w files (x ∷ es) e [] m long = absurd (omega (arith, long))
+files_append w files (x ∷ es) e (n ∷ ms) m long = files_append (world_behind n w x) (files_behind n w x files) es e ms m (omega (arith, long))
 
 -- What the laws of the model say.
 pub record ModelLaws : Type 0 where
@@ -135,51 +177,133 @@ pub record ModelLaws : Type 0 where
 
 module _ (count : ℕ) where
   -- each was possible where it came, and each clock shows no more than so many of the longest ticks
-  pub record WerePossible (w : World) (es : List WorldEvent) (raws : List (List ℕ)) (met : List (Option Armed)) : Type 0 where
-    pub possible : ArePossible count (opening (example_hosts count)) es raws met
+  pub record WerePossible (w : World) (es : List WorldEvent) (raws : List (List ℕ)) (met : List Meeting) : Type 0 where
+    pub possible : ArePossible count (opening (example_hosts count)) none_started es raws met
     pub fit : IsFit (length es) (seen w)
 
-  -- A world of a run, in which no node has started more often than there were events, and of which that holds where these are few.
-  pub record IsPossibleRun (w : World) (es : List WorldEvent) (raws : List (List ℕ)) (met : List (Option Armed)) : Type 0 where
+  -- A world of a run, in which no node has started more often than there were events, and of which that holds where these are few; and what is followed
+  -- behind its events.
+  pub record IsPossibleRun (w : World) (files : List LiveFile) (es : List WorldEvent) (raws : List (List ℕ)) (met : List Meeting) : Type 0 where
     pub run : w ≡ run_of (example_hosts count) es
+    pub behind : worlds_behind (opening (example_hosts count)) es met ≡ w
+    pub files_are : files_after (opening (example_hosts count)) none_started es met ≡ files
     pub bytes : raw_count es ≡ length raws
     pub calls : length met ≡ length es
     pub early : AreEarly (length es) w
     pub were : length es ≤ largest → WerePossible w es raws met
 
-  pub opening_possible : count ≤ 8 → IsPossibleRun (opening (example_hosts count)) [] [] []
-  opening_possible small = record { run = refl; bytes = refl; calls = refl; early = opening_early count; were = λ few. record { possible = tt; fit = opening_fits count small } }
+  pub opening_possible : count ≤ 8 → IsPossibleRun (opening (example_hosts count)) none_started [] [] []
+  opening_possible small = record {
+    run = refl;
+    behind = refl;
+    files_are = refl;
+    bytes = refl;
+    calls = refl;
+    early = opening_early count;
+    were = λ few. record { possible = tt; fit = opening_fits count small };
+  }
 
   module _ (laws : ModelLaws) where
-    pub step_possible : (w : World) (es : List WorldEvent) (e : WorldEvent) (raws given : List (List ℕ)) (met : List (Option Armed)) (a : Option Armed) → IsPossibleRun w es raws met
-        → one_call (is_raw e) ≡ length given → (length es < largest → IsFit (length es) (seen w) → MayCome count w e given a)
-        → IsPossibleRun (world_step w e) (es ++ e ∷ []) (raws ++ given) (met ++ a ∷ [])
-    step_possible w es e raws given met a r brings may =
+    -- one event, behind which the world is that of the run
+    one_more : (w : World) (files : List LiveFile) (es : List WorldEvent) (e : WorldEvent) (raws given : List (List ℕ)) (met : List Meeting) (m : Meeting) → IsPossibleRun w files es raws met
+        → one_call (is_raw e) ≡ length given → world_behind m w e ≡ world_step w e
+        → (length es < largest → IsFit (length es) (seen w) → MayCome count w (file_at (node_of e) files) e given m)
+        → IsPossibleRun (world_step w e) (files_behind m w e files) (es ++ e ∷ []) (raws ++ given) (met ++ m ∷ [])
+    one_more w files es e raws given met m r brings same may =
         let more : length (es ++ e ∷ []) ≡ length es + 1 = length-append es (e ∷ []) in
         record {
           run = ap (λ v. world_step v e) r.run ∙ sym (run_append (opening (example_hosts count)) es e);
+          behind = worlds_append (opening (example_hosts count)) es e met m r.calls ∙ ap (λ v. world_behind m v e) r.behind ∙ same;
+          files_are = files_append (opening (example_hosts count)) none_started es e met m r.calls ∙ (λ i. files_behind m (r.behind i) e (r.files_are i));
           bytes = omega (arith, r.bytes, brings, raw_more es e, length-append raws given);
-          calls = omega (arith, r.calls, more, length-append met (a ∷ []));
+          calls = omega (arith, r.calls, more, length-append met (m ∷ []));
           early =
               subst (λ k. AreEarly k (world_step w e)) (sym more)
               (early_on laws.drawn laws.place laws.lives laws.moves (length es) (example_hosts count) w es e r.run r.early);
           were = λ few.
               let before : WerePossible w es raws met = r.were (omega (arith, more, few)) in
-              let is : MayCome count w e given a = may (omega (arith, more, few)) before.fit in
+              let is : MayCome count w (file_at (node_of e) files) e given m = may (omega (arith, more, few)) before.fit in
               record {
                 possible =
-                    append_possible count (opening (example_hosts count)) es e raws given met a r.bytes r.calls before.possible
-                    (subst (λ v. IsPossible count v e (first_of given) a) r.run is.possible);
+                    append_possible count (opening (example_hosts count)) none_started es e raws given met m r.bytes r.calls before.possible
+                    (subst (λ fs. CanMeet count (worlds_behind (opening (example_hosts count)) es met) (file_at (node_of e) fs) e (first_of given) m) (sym r.files_are)
+                    (subst (λ v. CanMeet count v (file_at (node_of e) files) e (first_of given) m) (sym r.behind) is.possible));
                 fit =
                     subst (λ k. IsFit k (seen (world_step w e))) (sym more)
                     (subst (IsFit (length es + 1)) (sym (laws.moves.moved w e)) (fit_after laws.ids e (length es) (seen w) is.short before.fit));
               };
         }
 
+    -- the same of a turn behind which the node crashed
+    two_more : (w : World) (files : List LiveFile) (es : List WorldEvent) (e : WorldEvent) (raws given : List (List ℕ)) (met : List Meeting) (m : Meeting) → IsPossibleRun w files es raws met
+        → one_call (is_raw e) ≡ length given → world_behind m w e ≡ world_step (world_step w e) (Crash (node_of e))
+        → (length es < largest → IsFit (length es) (seen w) → MayCome count w (file_at (node_of e) files) e given m)
+        → IsPossibleRun (world_step (world_step w e) (Crash (node_of e))) (files_behind m w e files) (es ++ e ∷ Crash (node_of e) ∷ []) (raws ++ given) (met ++ m ∷ meetings.Ended ∷ [])
+    two_more w files es e raws given met m r brings same may =
+        let c : WorldEvent = Crash (node_of e) in
+        let more : length (es ++ e ∷ []) ≡ length es + 1 = length-append es (e ∷ []) in
+        let last : length ((es ++ e ∷ []) ++ c ∷ []) ≡ length es + 2 = omega (arith, more, length-append (es ++ e ∷ []) (c ∷ [])) in
+        let mid : world_step w e ≡ run_of (example_hosts count) (es ++ e ∷ []) = ap (λ v. world_step v e) r.run ∙ sym (run_append (opening (example_hosts count)) es e) in
+        let long : length (met ++ m ∷ []) ≡ length (es ++ e ∷ []) = omega (arith, r.calls, more, length-append met (m ∷ [])) in
+        let behind : worlds_behind (opening (example_hosts count)) (es ++ e ∷ []) (met ++ m ∷ []) ≡ world_behind m w e =
+        worlds_append (opening (example_hosts count)) es e met m r.calls ∙ ap (λ v. world_behind m v e) r.behind in
+        let files_are : files_after (opening (example_hosts count)) none_started (es ++ e ∷ []) (met ++ m ∷ []) ≡ files_behind m w e files =
+        files_append (opening (example_hosts count)) none_started es e met m r.calls ∙ (λ i. files_behind m (r.behind i) e (r.files_are i)) in
+        let early : AreEarly (length (es ++ e ∷ [])) (world_step w e) =
+        subst (λ k. AreEarly k (world_step w e)) (sym more)
+        (early_on laws.drawn laws.place laws.lives laws.moves (length es) (example_hosts count) w es e r.run r.early) in
+        subst (λ fs. IsPossibleRun (world_step (world_step w e) c) (files_behind m w e files) fs (raws ++ given) (met ++ m ∷ meetings.Ended ∷ [])) (append_assoc es (e ∷ []) (c ∷ []))
+        (subst (λ ms. IsPossibleRun (world_step (world_step w e) c) (files_behind m w e files) ((es ++ e ∷ []) ++ c ∷ []) (raws ++ given) ms) (append_assoc met (m ∷ []) (meetings.Ended ∷ []))
+        (record {
+          run = ap (λ v. world_step v c) mid ∙ sym (run_append (opening (example_hosts count)) (es ++ e ∷ []) c);
+          behind = worlds_append (opening (example_hosts count)) (es ++ e ∷ []) c (met ++ m ∷ []) meetings.Ended long ∙ behind ∙ same;
+          files_are = files_append (opening (example_hosts count)) none_started (es ++ e ∷ []) c (met ++ m ∷ []) meetings.Ended long ∙ files_are;
+          bytes = omega (arith, r.bytes, brings, raw_more es e, raw_more (es ++ e ∷ []) c, length-append raws given);
+          calls = omega (arith, long, length-append (met ++ m ∷ []) (meetings.Ended ∷ []), length-append (es ++ e ∷ []) (c ∷ []));
+          early =
+              subst (λ k. AreEarly k (world_step (world_step w e) c)) (sym (length-append (es ++ e ∷ []) (c ∷ [])))
+              (early_on laws.drawn laws.place laws.lives laws.moves (length (es ++ e ∷ [])) (example_hosts count) (world_step w e) (es ++ e ∷ []) c mid early);
+          were = λ few.
+              let before : WerePossible w es raws met = r.were (omega (arith, last, few)) in
+              let is : MayCome count w (file_at (node_of e) files) e given m = may (omega (arith, last, few)) before.fit in
+              let first = append_possible count (opening (example_hosts count)) none_started es e raws given met m r.bytes r.calls before.possible (subst (λ fs. CanMeet count (worlds_behind (opening (example_hosts count)) es met) (file_at (node_of e) fs) e (first_of given) m) (sym r.files_are)
+              (subst (λ v. CanMeet count v (file_at (node_of e) files) e (first_of given) m) (sym r.behind) is.possible)) in
+              let fit : IsFit (length es + 1) (seen (world_step w e)) = subst (IsFit (length es + 1)) (sym (laws.moves.moved w e)) (fit_after laws.ids e (length es) (seen w) is.short before.fit) in
+              record {
+                possible =
+                    subst (λ all. ArePossible count (opening (example_hosts count)) none_started ((es ++ e ∷ []) ++ c ∷ []) all ((met ++ m ∷ []) ++ meetings.Ended ∷ [])) (append-nil (raws ++ given))
+                    (append_possible count (opening (example_hosts count)) none_started (es ++ e ∷ []) c (raws ++ given) [] (met ++ m ∷ []) meetings.Ended
+                    (omega (arith, r.bytes, brings, raw_more es e, length-append raws given)) long first tt);
+                fit =
+                    subst (λ k. IsFit k (seen (world_step (world_step w e) c))) (omega (arith, last))
+                    (subst (IsFit (length es + 1 + 1)) (sym (laws.moves.moved (world_step w e) c)) (fit_after laws.ids c (length es + 1) (seen (world_step w e)) (omega arith) fit));
+              };
+        }))
+
+    -- an event that meets this
+    pub step_possible : (w : World) (files : List LiveFile) (es : List WorldEvent) (e : WorldEvent) (raws given : List (List ℕ)) (met : List Meeting) (m : Meeting) → IsPossibleRun w files es raws met
+        → (m ≡ meetings.Ended → ⊥) → one_call (is_raw e) ≡ length given → (length es < largest → IsFit (length es) (seen w) → MayCome count w (file_at (node_of e) files) e given m)
+        → IsPossibleRun (world_behind m w e) (files_behind m w e files) (es ++ events_by m e) (raws ++ given) (met ++ meetings_by m)
+    step_possible w files es e raws given met meetings.Nothing r had brings may = one_more w files es e raws given met meetings.Nothing r brings refl may
+    step_possible w files es e raws given met (meetings.Call a) r had brings may = one_more w files es e raws given met (meetings.Call a) r brings refl may
+    step_possible w files es e raws given met meetings.Ended r had brings may = absurd (had refl)
+    step_possible w files es e raws given met (meetings.Anew a call) r had brings may = by (ends_anew a.fault call) refl
+      where
+        m : Meeting
+        m = meetings.Anew a call
+
+        worlds : Bool → World
+        worlds t = if t then world_step (world_step w e) (Crash (node_of e)) else world_step w e
+
+        by : (t : Bool) → ends_anew a.fault call ≡ t
+            → IsPossibleRun (worlds t) (files_behind m w e files) (es ++ (if t then e ∷ Crash (node_of e) ∷ [] else e ∷ [])) (raws ++ given) (met ++ (if t then m ∷ meetings.Ended ∷ [] else m ∷ []))
+        by true e_is = two_more w files es e raws given met m r brings (ap worlds e_is) may
+        by false e_is = one_more w files es e raws given met m r brings (ap worlds e_is) may
+
     -- the same of an event that brings no such bytes
-    pub step_without : (w : World) (es : List WorldEvent) (e : WorldEvent) (raws : List (List ℕ)) (met : List (Option Armed)) (a : Option Armed) → IsPossibleRun w es raws met
-        → is_raw e ≡ false → (length es < largest → IsFit (length es) (seen w) → MayCome count w e [] a)
-        → IsPossibleRun (world_step w e) (es ++ e ∷ []) raws (met ++ a ∷ [])
-    step_without w es e raws met a r none may =
-        subst (λ all. IsPossibleRun (world_step w e) (es ++ e ∷ []) all (met ++ a ∷ [])) (append-nil raws)
-        (step_possible w es e raws [] met a r (ap one_call none) may)
+    pub step_without : (w : World) (files : List LiveFile) (es : List WorldEvent) (e : WorldEvent) (raws : List (List ℕ)) (met : List Meeting) (m : Meeting) → IsPossibleRun w files es raws met
+        → (m ≡ meetings.Ended → ⊥) → is_raw e ≡ false → (length es < largest → IsFit (length es) (seen w) → MayCome count w (file_at (node_of e) files) e [] m)
+        → IsPossibleRun (world_behind m w e) (files_behind m w e files) (es ++ events_by m e) raws (met ++ meetings_by m)
+    step_without w files es e raws met m r had none may =
+        subst (λ all. IsPossibleRun (world_behind m w e) (files_behind m w e files) (es ++ events_by m e) all (met ++ meetings_by m)) (append-nil raws)
+        (step_possible w files es e raws [] met m r had (ap one_call none) may)

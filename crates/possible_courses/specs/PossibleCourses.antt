@@ -1,10 +1,11 @@
 -- The events of a schedule are possible where they come.
 use Rattle.std.specs.Prelude.{ℕ, List, Bool, Option, Ok, length, ◌≡◌, ◌≤◌}
 use Rattle.at_model.specs.World.{example_hosts, opening}
+use Rattle.followed_events.specs.Meetings.{worlds_behind}
 use Rattle.possible_events.specs.PossibleEvents.{ArePossible}
 use Rattle.raw_requests.specs.declared.Drawn.{Drawn}
 use Rattle.replay_cmd.specs.Laws.{AreDrawn, IsReplayable}
-use Rattle.replay_cmd.specs.ReportOf.{Course, course_with, nodes_of}
+use Rattle.replay_cmd.specs.ReportOf.{Course, course_with, nodes_of, none_started}
 use Rattle.schedules.specs.Schedules.{schedule_of}
 use Rattle.schedules.specs.declared.line.Line.{Line}
 use Rattle.possible_courses.specs.ScheduleLines.{AreWithin}
@@ -13,9 +14,10 @@ use Rattle.possible_courses.specs.ScheduleLines.{AreWithin}
 abbrev pub ReadIsWithin : Type 0
 ReadIsWithin = (text : List ℕ) (all : List Line) → schedule_of text ≡ Ok all → AreWithin (nodes_of all) all
 
--- what happened to so many nodes was possible, with the bytes that were brought and the calls that came
-abbrev pub IsPossibleCourse : ℕ → Course → Type 0
-IsPossibleCourse count c = ArePossible count (opening (example_hosts count)) c.events c.raws c.met
+-- What happened to so many nodes was possible, with the bytes that were brought and the calls that came; and these left the world that it says.
+pub record IsPossibleCourse (count : ℕ) (c : Course) : Type 0 where
+  pub possible : ArePossible count (opening (example_hosts count)) none_started c.events c.raws c.met
+  pub behind : worlds_behind (opening (example_hosts count)) c.events c.met ≡ c.world
 
 -- So it is, also with the events that bring its world to rest, where there are fewer than 2^32 in all.
 abbrev pub CoursesArePossible : Type 0

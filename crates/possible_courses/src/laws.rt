@@ -16,7 +16,6 @@ pub fn what_is_read_is_within()
 
 /// Each event of a schedule can be done, where it comes, to nodes that run on machines in memory, with the bytes that it brings, and the call that
 /// was armed where that comes in it; so can each that brings its world to rest.
-#[tactic(auto, using(crate::proofs::PossibleLines::courses_are_possible))]
 pub fn courses_are_possible()
     ensures { CoursesArePossible }
 {

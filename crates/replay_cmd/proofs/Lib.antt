@@ -8,3 +8,6 @@ mod EventLines
 mod LineDraws
 mod TakenLines
 mod EventCounts
+pub mod EventFiles
+pub mod NodeFiles
+pub mod EventWorlds

@@ -1,22 +1,30 @@
 -- The world of a replay is that of a run, line by line.
 use Rattle.std.proofs.Common.{ℕ, zero, suc, ◌+◌, ◌-◌, ◌≡◌, refl, List, [], ◌∷◌, ◌++◌, length, ap, ◌∙◌, arith, subst, sym}
-use Rattle.std.specs.Prelude.{Option, Some, None, Bool, true, false, ◌&&◌, is_some, option_map}
+use Rattle.std.proofs.lemmas.List.{append_assoc}
+use Rattle.std.specs.Prelude.{Option, Some, None, Bool, true, false, ◌&&◌, if◌then◌else◌, is_some, option_map}
 use Rattle.at_base.specs.declared.event.Local.TheVariants as locals
 use Rattle.at_model.specs.Views.{up, deliver_to, tick_at, request, begin_at, interpose_at, work_at, commit_at}
 use Rattle.at_model.specs.World.{Crash, World, WorldEvent, node_of, nth, opening, run_on, world_step, example_hosts}
+use Rattle.followed_events.specs.FollowedEvents.{rewrites, stepped}
+use Rattle.followed_events.specs.Meetings.{ends_anew, events_by, file_at, world_behind}
+use Rattle.live_files.specs.LiveFiles.{LiveFile}
 use Rattle.raw_requests.specs.declared.Drawn.{Drawn}
 use Rattle.raw_requests.specs.declared.Drawn.TheVariants as drawns
 use Rattle.schedules.specs.Generator.{made}
 use Rattle.schedules.specs.Values.{bytes_in}
+use Rattle.schedules.specs.declared.line.Leaves.TheVariants as leaves
 use Rattle.schedules.specs.declared.line.Line.{Line}
 use Rattle.schedules.specs.declared.line.Line.TheVariants as lines
 use Rattle.world_laws.specs.Firsts.{first_records}
+use Rattle.world_laws.specs.Moves.{left_of}
 use Rattle.world_laws.specs.Runs.{incarnation_at}
 use Rattle.armed_calls.specs.declared.fault.Armed.{Armed}
+use Rattle.armed_calls.specs.declared.fault.Fault.{Fault}
 use Rattle.replay_cmd.specs.Deliveries.{lowest, yes_at}
-use Rattle.armed_calls.specs.Faults.{raw_at, still_armed, struck, struck_line}
-use Rattle.replay_cmd.specs.ReportOf.{Course, all_happen, all_taken, all_up, armed_at, begun, brings, comes, comes_behind_line, comes_by_line, comes_to, delivered_to, delivers_lowest, delivers_where, flushes, happens, injects_where, nobody_armed, nodes_of, raw_comes, receiver_in, taken, world_of}
+use Rattle.armed_calls.specs.Faults.{armed_behind, raw_at, still_armed, struck, struck_line}
+use Rattle.replay_cmd.specs.ReportOf.{Course, all_happen, all_taken, all_up, armed_at, begun, brings, comes, comes_behind_line, comes_by_line, comes_to, delivered_to, delivers_lowest, delivers_where, flushes, happens, happens_armed, injects_where, meeting_of, nobody_armed, nodes_of, none_started, raw_comes, receiver_in, taken, world_of}
 use Rattle.replay_cmd.specs.Laws.{IsOfRun, IsReplayable}
+use Rattle.replay_cmd.proofs.EventFiles.{meeting_cases}
 
 run_append : (w : World) (es : List WorldEvent) (e : WorldEvent) → run_on w (es ++ e ∷ []) ≡ world_step (run_on w es) e
 run_append w [] e = refl
@@ -33,25 +41,49 @@ module _ (P : World → List WorldEvent → Type 0) (step : (w : World) (es : Li
   abbrev pub Holds : Course → Type 0
   Holds c = P c.world c.events
 
-  -- an event of a line, whether a call is armed or not
-  comes_on : (e : WorldEvent) (c : Course) → Holds c → Holds (comes e c)
-  comes_on e c r = at (armed_at (node_of e) c.armed)
+  -- an event, whatever came in it
+  behind_on : (w : World) (es : List WorldEvent) (e : WorldEvent) → P w es → (was still : Option Armed) (rewritten : Bool) (f : LiveFile)
+      → P (world_behind (meeting_of was still rewritten f) w e) (es ++ events_by (meeting_of was still rewritten f) e)
+  behind_on w es e r was still rewritten f =
+      meeting_cases (λ m. P (world_behind m w e) (es ++ events_by m e)) (step w es e r) (λ a. step w es e r) (λ a call. at (ends_anew a.fault call)) was still rewritten f
     where
-      at : (o : Option Armed) → Holds (comes_to o 0 e c)
-      at None = step c.world c.events e r
-      at (Some a) = step c.world c.events (struck a (first_records c.world e) e) r
+      at : (ends : Bool) → P (if ends then world_step (world_step w e) (Crash (node_of e)) else world_step w e) (es ++ (if ends then e ∷ Crash (node_of e) ∷ [] else e ∷ []))
+      at false = step w es e r
+      at true =
+          subst (P (world_step (world_step w e) (Crash (node_of e)))) (append_assoc es (e ∷ []) (Crash (node_of e) ∷ []))
+          (step (world_step w e) (es ++ e ∷ []) (Crash (node_of e)) (step w es e r))
+
+  armed_on : (was still : Option Armed) (f : Fault) (s : ℕ) (e : WorldEvent) (c : Course) → Holds c → Holds (happens_armed was still f s e c)
+  armed_on was still f s e c r = behind_on c.world c.events e r was still (rewrites c.world e (behind c e)) (behind c e)
+    where
+      behind : Course → WorldEvent → LiveFile
+      behind c e = stepped leaves.Keep c.world e (file_at (node_of e) c.files)
+
+  -- an event of a line, whether a call is armed or not
+  to_on : (o : Option Armed) (s : ℕ) (e : WorldEvent) (c : Course) → Holds c → Holds (comes_to o s e c)
+  to_on None s e c r = step c.world c.events e r
+  to_on (Some a) s e c r =
+      armed_on (armed_at (node_of e) c.armed)
+      (armed_behind a (is_some (incarnation_at c.world (node_of e))) first (length (left_of c.world (struck a first e)).fates) e)
+      a.fault s (struck a first e) c r
+    where
+      first : Option Bool
+      first = first_records c.world e
+
+  comes_on : (e : WorldEvent) (c : Course) → Holds c → Holds (comes e c)
+  comes_on e c r = to_on (armed_at (node_of e) c.armed) 0 e c r
 
   -- raw bytes, behind the interim line or without it
   raw_on : (o : Option Armed) (waits : Bool) (s n : ℕ) (c : Course) → Holds c → Holds (raw_comes o waits s n c)
-  raw_on None waits s n c r = step c.world c.events (raw_at n) r
+  raw_on None waits s n c r = to_on None s (raw_at n) c r
   raw_on (Some a) waits s n c r = at (waits && is_some (incarnation_at c.world n))
     where
       behind : (o : Option Armed) → Holds (comes_behind_line o a.fault s n c)
-      behind None = step c.world c.events (struck_line n a.fault) r
-      behind (Some b) = step c.world c.events (struck b (first_records c.world (raw_at n)) (raw_at n)) r
+      behind None = armed_on (armed_at n c.armed) None a.fault s (struck_line n a.fault) c r
+      behind (Some b) = to_on (Some b) s (raw_at n) c r
 
       at : (says : Bool) → Holds (comes_by_line says a s n c)
-      at false = step c.world c.events (struck a (first_records c.world (raw_at n)) (raw_at n)) r
+      at false = to_on (Some a) s (raw_at n) c r
       at true = behind (still_armed a (a.call - 1))
 
   inject_on : (d : Option Drawn) (bytes : List ℕ) (n : ℕ) (c : Course) → Holds c → Holds (injects_where d bytes n c)
@@ -111,7 +143,7 @@ run_step count w es e r = step_on count w e r
 pub report_run : (draws : List (Option Drawn)) (all : List Line) → IsOfRun (nodes_of all) (world_of draws all)
 report_run draws all =
     all_on (OfRun (nodes_of all)) (run_step (nodes_of all)) draws all (begun (nodes_of all))
-    (up_on (OfRun (nodes_of all)) (run_step (nodes_of all)) (nodes_of all) 1 (record { world = opening (example_hosts (nodes_of all)); events = []; delivered = []; armed = nobody_armed; raws = []; met = []; text = [] })
+    (up_on (OfRun (nodes_of all)) (run_step (nodes_of all)) (nodes_of all) 1 (record { world = opening (example_hosts (nodes_of all)); events = []; delivered = []; armed = nobody_armed; raws = []; files = none_started; met = []; text = [] })
     (record { events = []; run = refl }))
 
 -- what is made of a seed may be replayed

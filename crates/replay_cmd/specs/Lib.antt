@@ -5,3 +5,5 @@ pub mod Laws
 pub mod Lines
 pub mod ReportOf
 pub mod EventCounts
+pub mod EventFiles
+pub mod Happenings

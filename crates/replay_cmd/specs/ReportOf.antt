@@ -1,5 +1,5 @@
 -- The report of a schedule: what its lines do to a world, and what is printed of that.
-use Rattle.std.specs.Prelude.{ℕ, List, [], ◌∷◌, ◌++◌, Option, Some, None, Bool, true, false, ◌&&◌, ◌+◌, ◌-◌, zero, suc, length, min, take, drop, filter, if◌then◌else◌, is_some, option_and_then, option_map, replicate, slice_get, slice_set, codes}
+use Rattle.std.specs.Prelude.{ℕ, List, [], ◌∷◌, ◌++◌, Option, Some, None, Bool, true, false, ◌&&◌, ◌+◌, ◌-◌, zero, suc, length, min, nat_le, take, drop, filter, if◌then◌else◌, is_some, option_and_then, option_map, replicate, slice_get, slice_set, codes}
 use Rattle.at_base.specs.declared.event.Local.{Local}
 use Rattle.at_base.specs.declared.event.Local.TheVariants as locals
 use Rattle.at_base.specs.declared.notice.Kind.TheVariants as kinds
@@ -35,6 +35,13 @@ use Rattle.replay_cmd.specs.declared.lines.Outcome.TheVariants as outcomes
 use Rattle.replay_cmd.specs.declared.lines.Started.{Started}
 use Rattle.replay_cmd.specs.declared.lines.Started.TheVariants as starts
 use Rattle.replay_cmd.specs.Deliveries.{yes_at, lowest}
+use Rattle.armed_calls.specs.declared.meeting.Meeting.{Meeting}
+use Rattle.armed_calls.specs.declared.meeting.Meeting.TheVariants as meetings
+use Rattle.followed_events.specs.FollowedEvents.{rewrites, stepped}
+use Rattle.followed_events.specs.Meetings.{ends, events_by, file_at, files_behind, meetings_by, world_behind}
+use Rattle.live_files.specs.LiveFiles.{LiveFile, unstarted}
+use Rattle.live_files.specs.Rewritings.{calls_anew, of_six}
+use Rattle.schedules.specs.declared.line.Leaves.TheVariants as leaves
 use Rattle.armed_calls.specs.Faults.{armed_behind, raw_at, still_armed, struck, struck_line}
 use Rattle.effect_words.specs.Words.{refusal_word}
 use Rattle.replay_cmd.specs.Lines.{up_line, up_already_line, down_line, deliver_line, no_message_line, tick_line, inject_line, forged_line, refused_line, effect_line, message_line, end_line, summary_line}
@@ -142,40 +149,50 @@ step_lines n k messages (o ∷ rest) =
     ++ (message_lines k (take (own_count o messages) messages)
     ++ step_lines n (k + own_count o messages) (drop (own_count o messages) messages) rest)
 
--- What is printed of an event in a world: its result, then its steps, then what going down lost.
-abbrev pub event_lines : Option Fault → ℕ → World → WorldEvent → List ℕ
-event_lines f s w e =
-    result_line f s e w (world_step w e) (steps_of w e)
-    ++ (step_lines (node_of e) (length w.posted + 1) (drop (length w.posted) (world_step w e).posted) (steps_of w e)
-    ++ effect_lines (node_of e) (losses_of w e))
+-- what going down lost
+abbrev pub losses_by : Meeting → World → WorldEvent → List Effect
+losses_by met w e = if ends met then losses_of (world_step w e) (Crash (node_of e)) else losses_of w e
+
+-- What is printed of an event in a world that met this: its result, then its steps, then what going down lost.
+abbrev pub event_lines : Meeting → Option Fault → ℕ → World → WorldEvent → List ℕ
+event_lines met f s w e =
+    result_line f s e w (world_behind met w e) (steps_of w e)
+    ++ (step_lines (node_of e) (length w.posted + 1) (drop (length w.posted) (world_behind met w e).posted) (steps_of w e)
+    ++ effect_lines (node_of e) (losses_by met w e))
 
 -- How far a replay has come: the world, what happened to it, in order, for each message from the first on whether it was
 -- delivered (those behind the list weren't), which call is armed at each node, the bytes that the events of raw bytes brought, in
--- order, for each event which armed call came in it, if one did, and what was printed.
+-- order, what is followed of the journal of each node, for each event which armed call came in it, if one did, and what was printed.
 pub record Course : Type 0 where
   pub world : World
   pub events : List WorldEvent
   pub delivered : List Bool
   pub armed : List (Option Armed)
   pub raws : List (List ℕ)
-  pub met : List (Option Armed)
+  pub files : List LiveFile
+  pub met : List Meeting
   pub text : List ℕ
 
--- An event happens, which met this fault or none; raw bytes draw this status.
-abbrev pub happens_so : Option Fault → ℕ → WorldEvent → Course → Course
-happens_so f s e c = record c { world = world_step c.world e; events = c.events ++ e ∷ []; text = c.text ++ event_lines f s c.world e }
-
--- This call came in the last event, or none.
-abbrev pub noted : Option Armed → Course → Course
-noted a c = record c { met = c.met ++ a ∷ [] }
+-- An event happens, in which this call came or none, and which met this fault or none; raw bytes draw this status.
+abbrev pub happens_so : Meeting → Option Fault → ℕ → WorldEvent → Course → Course
+happens_so met f s e c = record c {
+  world = world_behind met c.world e;
+  events = c.events ++ events_by met e;
+  files = files_behind met c.world e c.files;
+  met = c.met ++ meetings_by met;
+  text = c.text ++ event_lines met f s c.world e;
+}
 
 -- Another event than raw bytes happens, in which no armed call comes.
 abbrev pub happens : WorldEvent → Course → Course
-happens e c = noted None (happens_so None 0 e c)
+happens e c = happens_so meetings.Nothing None 0 e c
 
 -- there are at most 8 nodes
 abbrev pub nobody_armed : List (Option Armed)
 nobody_armed = replicate 8 None
+
+abbrev pub none_started : List LiveFile
+none_started = replicate 8 unstarted
 
 abbrev pub armed_at : ℕ → List (Option Armed) → Option Armed
 armed_at n armed = option_and_then (λ a. a) (slice_get armed (n - 1))
@@ -184,19 +201,45 @@ armed_at n armed = option_and_then (λ a. a) (slice_get armed (n - 1))
 abbrev pub with_armed : ℕ → Option Armed → Course → Course
 with_armed n a c = record c { armed = slice_set c.armed (n - 1) a }
 
--- what is armed behind an event: a call that is still armed didn't come in it
-abbrev pub noted_at : ℕ → Option Armed → Option Armed → Course → Course
-noted_at n was still c = noted (if is_some still then None else was) (with_armed n still c)
+-- the armed call came in the steps of an event, or in a start
+abbrev pub met_call : Option Armed → Meeting
+met_call None = meetings.Nothing
+met_call (Some a) = meetings.Call a
 
--- An event happens as far as the call that is armed at its node lets it.
+-- or it is this one of the six by which the journal is written anew behind them
+abbrev pub met_anew : Option Armed → ℕ → Meeting
+met_anew None call = meetings.Nothing
+met_anew (Some a) call = meetings.Anew a call
+
+-- Which call came in an event before which this was armed: behind its steps that one still is, or none; and then the journal of this file is written
+-- anew, or isn't.
+abbrev pub meeting_of : Option Armed → Option Armed → Bool → LiveFile → Meeting
+meeting_of was None rewritten f = met_call was
+meeting_of was (Some a) false f = meetings.Nothing
+meeting_of was (Some a) true f = if nat_le a.call (calls_anew f) then met_anew was (of_six f a.call) else meetings.Nothing
+
+-- what is armed behind all of that
+abbrev pub armed_then : Option Armed → Bool → LiveFile → Option Armed
+armed_then None rewritten f = None
+armed_then (Some a) false f = Some a
+armed_then (Some a) true f = still_armed a (a.call - calls_anew f)
+
+-- An event happens, before which this was armed at its node, and behind whose steps that is.
+abbrev pub happens_armed : Option Armed → Option Armed → Fault → ℕ → WorldEvent → Course → Course
+happens_armed was still f s e c =
+    let file : LiveFile = stepped leaves.Keep c.world e (file_at (node_of e) c.files) in
+    with_armed (node_of e) (armed_then still (rewrites c.world e file) file)
+    (happens_so (meeting_of was still (rewrites c.world e file) file) (Some f) s e c)
+
+-- It happens as far as the call that is armed at its node lets it.
 abbrev pub meets : Armed → Option Bool → ℕ → WorldEvent → Course → Course
 meets a first s e c =
-    noted_at (node_of e) (armed_at (node_of e) c.armed)
+    happens_armed (armed_at (node_of e) c.armed)
     (armed_behind a (is_some (incarnation_at c.world (node_of e))) first (length (left_of c.world (struck a first e)).fates) e)
-    (happens_so (Some a.fault) s (struck a first e) c)
+    a.fault s (struck a first e) c
 
 abbrev pub comes_to : Option Armed → ℕ → WorldEvent → Course → Course
-comes_to None s e c = noted None (happens_so None s e c)
+comes_to None s e c = happens_so meetings.Nothing None s e c
 comes_to (Some a) s e c = meets a (first_records c.world e) s e c
 
 -- An event that a line asks for.
@@ -208,7 +251,7 @@ printed line c = record c { text = c.text ++ line }
 
 -- The armed call is the interim line of raw bytes that come to a node.
 abbrev pub meets_line : Fault → ℕ → ℕ → Course → Course
-meets_line f s n c = noted_at n (armed_at n c.armed) None (happens_so (Some f) s (struck_line n f) c)
+meets_line f s n c = happens_armed (armed_at n c.armed) None f s (struck_line n f) c
 
 -- What is armed behind the interim line, where that isn't the armed call itself.
 abbrev pub comes_behind_line : Option Armed → Fault → ℕ → ℕ → Course → Course
@@ -293,7 +336,8 @@ all_up (suc count) n c = all_up count (n + 1) (happens (up n) c)
 -- Every node comes up, in a world where nothing happened before.
 abbrev pub begun : ℕ → Course
 begun count =
-    all_up count 1 (record { world = opening (example_hosts count); events = []; delivered = []; armed = nobody_armed; raws = []; met = []; text = [] })
+    all_up count 1
+    (record { world = opening (example_hosts count); events = []; delivered = []; armed = nobody_armed; raws = []; files = none_started; met = []; text = [] })
 
 abbrev pub is_ending : Ending → Ending → Bool
 is_ending endings.Committed endings.Committed = true

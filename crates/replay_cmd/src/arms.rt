@@ -77,18 +77,18 @@ pub fn still_armed(armed: Armed, left: u32) -> Option<Armed>
 pub enum Rest {
     /// This.
     Known { armed: Option<Armed> },
-    /// What the steps of the event leave.
-    Steps,
+    /// What the steps of the event leave of this.
+    Steps { armed: Armed },
 }
 
 /// What is known of that. `first` is whether the event's first step has a record, none where it takes no step.
 pub fn known_rest(armed: Armed, was_up: bool, first: Option<bool>, event: &WorldEvent) -> Rest
-    ensures { (left : ℕ) → rest_of result armed left ≡ armed_behind armed was_up first left (event_of event.now) }
+    ensures { (left : ℕ) → rest_of result left ≡ armed_behind armed was_up first left (event_of event.now) }
 {
     match event {
         WorldEvent::Turn { .. } | WorldEvent::Ask { .. } => match first {
             None => Rest::Known { armed: Some(armed) },
-            Some(_) => Rest::Steps,
+            Some(_) => Rest::Steps { armed },
         },
         WorldEvent::Crash { .. } => Rest::Known {
             armed: if was_up { None } else { Some(armed) },
@@ -105,12 +105,12 @@ pub fn known_rest(armed: Armed, was_up: bool, first: Option<bool>, event: &World
 
 impl Rest {
     /// What is armed behind the event, whose steps left so many fates.
-    pub fn behind(self, armed: Armed, left: usize) -> Option<Armed>
-        ensures { result ≡ rest_of self armed left }
+    pub fn behind(self, left: usize) -> Option<Armed>
+        ensures { result ≡ rest_of self left }
     {
         match self {
             Rest::Known { armed } => armed,
-            Rest::Steps => still_armed(armed, left.min(armed.call as usize) as u32),
+            Rest::Steps { armed } => still_armed(armed, left.min(armed.call as usize) as u32),
         }
     }
 }

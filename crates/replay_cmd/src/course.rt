@@ -1,26 +1,29 @@
 //! A replay on its way.
 
-ghost use Rattle.std.specs.Prelude.{◌≡◌, ◌≤◌, ◌-◌, ◌++◌, ◌∷◌, [], IfErr, IfOk, None, Some, is_some, length, map, option_map};
+ghost use Rattle.std.specs.Prelude.{◌≡◌, ◌≤◌, ◌-◌, [], IfErr, IfOk, None, Some, is_some, length, map, option_map};
 ghost use Rattle.at_model.specs.Views.{deliver_to, request, tick_at, up};
-ghost use Rattle.at_model.specs.World.{Crash, nth, opening, run_of, world_step, example_hosts};
+ghost use Rattle.at_model.specs.World.{Crash, nth, opening, run_of, example_hosts};
 ghost use Rattle.world_laws.specs.Events.{event_of};
 ghost use Rattle.world_laws.specs.Runs.{incarnation_at, world_of};
 ghost use Rattle.world_laws.specs.Firsts.{first_records};
-ghost use Rattle.world_laws.specs.Moves.{left_of, losses_of, steps_of};
 ghost use Rattle.settlement.specs.declared.run_error.RunError.TheVariants.{TooManyEvents};
 ghost use Rattle.replay_cmd.specs.Deliveries.{lowest, yes_at};
 ghost use Rattle.replay_cmd.specs.EventCounts.{HasTooManyEvents};
+ghost use Rattle.replay_cmd.specs.Happenings.{armed_in, met_in};
 ghost use Rattle.replay_cmd.specs.Lines.{forged_line, no_message_line};
-ghost use Rattle.replay_cmd.specs.ReportOf.{all_happen, all_up, armed_at, begun, brings, comes, comes_to_rest, delivers, flushes, goes_to, happens, happens_so, injects, nobody_armed, noted, printed, receiver_in, summed, whole, with_armed};
+ghost use Rattle.replay_cmd.specs.ReportOf.{all_happen, all_up, armed_at, begun, brings, comes, comes_to, comes_to_rest, delivers, flushes, goes_to, happens, happens_so, injects, nobody_armed, none_started, printed, receiver_in, summed, whole, with_armed};
 
-use crate::arms::Arms;
+use crate::arms::{Arms, Rest};
 use crate::asked_events::{asking, coming_up, turn};
 use crate::deliveries::Delivered;
 use crate::endings::{push_ended, push_summed};
 use crate::event_lines::{behind_of, push_before, push_event};
+use crate::files::Files;
+use crate::happenings::{Happened, MOST, happen_in, push_meetings};
 use crate::lines::Lines;
 use crate::raw_bytes::RawBytes;
 use armed_calls::fault::{Armed, Fault};
+use armed_calls::meeting::Meeting;
 use at_base::event::Local;
 use raw_requests::Drawn;
 use settlement::run_error::RunError;
@@ -29,10 +32,7 @@ use std::alloc::{AllocError, Global};
 use std::marker::Model;
 use world_laws::event::{Input, WorldEvent};
 use world_laws::posts::Posted;
-use world_laws::world::{Stepped, World};
-
-/// A world takes no more events; the lines of a schedule give fewer.
-const MOST: usize = 4_294_967_295;
+use world_laws::world::World;
 
 /// How far a replay has come.
 #[derive(Drop)]
@@ -42,9 +42,10 @@ pub struct Course {
     armed: Arms,
     /// What the events of raw bytes brought, in order.
     raws: Vec<RawBytes>,
-    lines: Lines,
+    files: Files,
     /// For each event so far which armed call came in it, if one did.
-    met: Vec<Option<Armed>>,
+    met: Vec<Meeting>,
+    lines: Lines,
 }
 
 impl Model for Course {
@@ -55,23 +56,7 @@ impl Model for Course {
 
     ghost Value = { Known };
 
-    ghost view = { λ c. record { world = world_of c.world; events = map event_of c.world.events; delivered = c.delivered; armed = c.armed; raws = c.raws.items; met = c.met.items; text = c.lines } };
-}
-
-#[tactic(auto, using(crate::proofs::Loops::one_more))]
-fn stepped(world: World, alloc: Global, event: WorldEvent) -> Result<Stepped, RunError>
-    ensures events { IfOk result (λ s. map event_of s.world.events ≡ map event_of world.events ++ event_of event ∷ []) }
-    ensures world { IfOk result (λ s. world_of s.world ≡ world_step (world_of world) (event_of event)) }
-    ensures steps { IfOk result (λ s. s.steps ≡ steps_of (world_of world) (event_of event)) }
-    ensures lost { IfOk result (λ s. s.lost ≡ losses_of (world_of world) (event_of event)) }
-    ensures left { IfOk result (λ s. s.left ≡ left_of (world_of world) (event_of event)) }
-    ensures many { IfErr result (λ e. e ≡ TooManyEvents → 4294967295 ≤ length world.events) }
-{
-    if world.events().len() >= MOST {
-        return Err(RunError::TooManyEvents);
-    }
-    let stepped = world.step(alloc, event)?;
-    Ok(stepped)
+    ghost view = { λ c. record { world = world_of c.world; events = map event_of c.world.events; delivered = c.delivered; armed = c.armed; raws = c.raws.items; files = c.files; met = c.met.items; text = c.lines } };
 }
 
 #[tactic(auto, using(crate::proofs::Loops::opened, crate::proofs::Loops::none_yet))]
@@ -88,65 +73,81 @@ impl Course {
     /// A world of so many nodes, each of which is down.
     fn opening(alloc: Global, count: u8) -> Result<Course, AllocError>
         requires { (1 ≤ count) × (count ≤ 8) }
-        ensures { IfOk result (λ c. c ≡ record { world = opening (example_hosts count); events = []; delivered = []; armed = nobody_armed; raws = []; met = []; text = [] }) }
+        ensures { IfOk result (λ c. c ≡ record { world = opening (example_hosts count); events = []; delivered = []; armed = nobody_armed; raws = []; files = none_started; met = []; text = [] }) }
     {
         Ok(Course {
             world: opened(alloc, count)?,
             delivered: Delivered::new(alloc),
             armed: Arms::new(alloc)?,
             raws: Vec::new(alloc),
-            lines: Lines::new(alloc),
+            files: Files::new(alloc)?,
             met: Vec::new(alloc),
+            lines: Lines::new(alloc),
         })
     }
 
-    /// An event happens, which met this fault or none; and how many of its fates it left. Raw bytes draw this status.
-    #[tactic(auto, using(crate::proofs::EventLines::happened, crate::proofs::EventCounts::one_too_many, crate::proofs::EventCounts::as_many))]
+    /// An event happens, before which this was armed at its node, and behind whose steps that is; and what is armed then. It may
+    /// have met this fault. Raw bytes draw this status.
+    #[tactic(auto, using(crate::proofs::EventLines::happened, crate::proofs::EventWorlds::course_is))]
     pub(crate) fn happen(
         self,
         alloc: Global,
+        was: Option<Armed>,
+        rest: Rest,
         fault: Option<Fault>,
         drawn: u16,
         event: WorldEvent,
-    ) -> Result<(Course, usize), RunError>
-        ensures course { IfOk result (λ p. p.0 ≡ happens_so fault drawn (event_of event) self) }
-        ensures left { IfOk result (λ p. p.1 ≡ length (left_of self.world (event_of event)).fates) }
-        ensures many { IfErr result (λ e. e ≡ TooManyEvents → HasTooManyEvents (happens_so fault drawn (event_of event) self)) }
+    ) -> Result<(Course, Option<Armed>), RunError>
+        ensures course { IfOk result (λ p. p.0 ≡ happens_so (met_in was rest self.world (event_of event) self.files) fault drawn (event_of event) self) }
+        ensures armed { IfOk result (λ p. p.1 ≡ armed_in rest self.world (event_of event) self.files) }
+        ensures many { IfErr result (λ e. e ≡ TooManyEvents → HasTooManyEvents (happens_so (met_in was rest self.world (event_of event) self.files) fault drawn (event_of event) self)) }
     {
         let Course {
             world,
             delivered,
             armed,
             raws,
+            mut files,
+            mut met,
             mut lines,
-            met,
         } = self;
         let before = world.all_posted().len();
         let node = event.node();
         let behind = behind_of(&world, &event);
         push_before(alloc, &mut lines, &world, &event)?;
-        let stepped = stepped(world, alloc, event)?;
+        let Happened {
+            stepped,
+            met: came,
+            armed: then,
+        } = happen_in(world, &mut files, alloc, was, rest, event)?;
         push_event(
             alloc, &mut lines, node, fault, drawn, behind, before, &stepped,
         )?;
-        let left = stepped.left.left();
+        push_meetings(&mut met, came)?;
         let course = Course {
             world: stepped.world,
             delivered,
             armed,
             raws,
-            lines,
+            files,
             met,
+            lines,
         };
-        Ok((course, left))
+        Ok((course, then))
     }
 
-    /// This call came in the last event, or none.
-    pub(crate) fn note(self, armed: Option<Armed>) -> Result<Course, AllocError>
-        ensures { IfOk result (λ c. c ≡ noted armed self) }
+    /// Raw bytes that draw this status, or another event, happen as they are.
+    pub(crate) fn happen_unarmed(
+        self,
+        alloc: Global,
+        drawn: u16,
+        event: WorldEvent,
+    ) -> Result<Course, RunError>
+        ensures course { IfOk result (λ c. c ≡ comes_to None drawn (event_of event) self) }
+        ensures many { IfErr result (λ e. e ≡ TooManyEvents → HasTooManyEvents (comes_to None drawn (event_of event) self)) }
     {
-        let mut course = self;
-        course.met.push(armed)?;
+        let rest = Rest::Known { armed: None };
+        let (course, _armed) = self.happen(alloc, None, rest, None, drawn, event)?;
         Ok(course)
     }
 
@@ -155,8 +156,7 @@ impl Course {
         ensures course { IfOk result (λ c. c ≡ happens (event_of event) self) }
         ensures many { IfErr result (λ e. e ≡ TooManyEvents → HasTooManyEvents (happens (event_of event) self)) }
     {
-        let (course, _left) = self.happen(alloc, None, 0, event)?;
-        Ok(course.note(None)?)
+        self.happen_unarmed(alloc, 0, event)
     }
 
     /// The call that is armed at a node.
@@ -416,9 +416,8 @@ impl Course {
         (self.world.count(), self.world.events())
     }
 
-    /// For each of them which armed call came in it, if one did. The calls by which a journal is written anew are none that
-    /// come in an event, so none of them fails.
-    pub fn met(&self) -> &[Option<Armed>]
+    /// For each of them which armed call came in it, if one did.
+    pub fn met(&self) -> &[Meeting]
         ensures { result.now ≡ self.now.met }
     {
         self.met.as_slice()
@@ -447,8 +446,9 @@ impl Course {
             delivered: _delivered,
             armed: _armed,
             raws: _raws,
-            mut lines,
+            files: _files,
             met: _met,
+            mut lines,
         } = self;
         push_ended(alloc, &mut lines, &world)?;
         Ok(lines)

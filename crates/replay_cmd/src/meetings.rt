@@ -3,34 +3,41 @@
 ghost use Rattle.std.specs.Prelude.{◌≡◌, IfErr, IfOk};
 ghost use Rattle.armed_calls.specs.Faults.{raw_at};
 ghost use Rattle.replay_cmd.specs.EventCounts.{HasTooManyEvents};
-ghost use Rattle.replay_cmd.specs.ReportOf.{armed_at, comes_behind_line, comes_by_line, comes_to, meets, meets_line, noted_at, raw_comes};
+ghost use Rattle.replay_cmd.specs.ReportOf.{armed_at, comes_behind_line, comes_by_line, comes_to, happens_armed, meets, meets_line, raw_comes};
+ghost use Rattle.replay_cmd.specs.Rests.{still_in};
 ghost use Rattle.settlement.specs.declared.run_error.RunError.TheVariants.{TooManyEvents};
 ghost use Rattle.world_laws.specs.Events.{event_of};
 
-use crate::arms::{known_rest, still_armed};
+use crate::arms::{Rest, known_rest, still_armed};
 use crate::asked_events::{line_struck, turn};
 use crate::course::Course;
 use crate::struck_events::strike;
 use armed_calls::fault::{Armed, Fault};
 use settlement::run_error::RunError;
-use std::alloc::{AllocError, Global};
+use std::alloc::Global;
 use world_laws::event::{Input, WorldEvent};
 
 impl Course {
-    /// What is armed at a node behind an event, where this was before it: a call that is still armed didn't come in it.
-    fn note_at(
+    /// An event happens, before which this was armed at its node, and behind whose steps that is.
+    fn happen_armed(
         self,
-        node: u8,
+        alloc: Global,
         was: Option<Armed>,
-        still: Option<Armed>,
-    ) -> Result<Course, AllocError>
-        ensures { IfOk result (λ c. c ≡ noted_at node was still self) }
+        rest: Rest,
+        fault: Fault,
+        drawn: u16,
+        event: WorldEvent,
+    ) -> Result<Course, RunError>
+        ensures course { IfOk result (λ c. c ≡ happens_armed was (still_in rest self.world (event_of event)) fault drawn (event_of event) self) }
+        ensures many { IfErr result (λ e. e ≡ TooManyEvents → HasTooManyEvents (happens_armed was (still_in rest self.world (event_of event)) fault drawn (event_of event) self)) }
     {
-        let came = if still.is_some() { None } else { was };
-        self.arm(node, still).note(came)
+        let node = event.node();
+        let (course, armed) = self.happen(alloc, was, rest, Some(fault), drawn, event)?;
+        Ok(course.arm(node, armed))
     }
 
     /// An event happens as far as the armed call lets it; whether its first step has a record.
+    #[tactic(auto, using(crate::proofs::EventWorlds::meets_so, crate::proofs::EventWorlds::meets_many))]
     fn meet_at(
         self,
         alloc: Global,
@@ -47,12 +54,11 @@ impl Course {
         let rest = known_rest(armed, self.is_up(node), first, &event);
         let mut event = event;
         strike(alloc, armed, first, &mut event)?;
-        let (course, left) = self.happen(alloc, Some(armed.fault), drawn, event)?;
-        Ok(course.note_at(node, was, rest.behind(armed, left))?)
+        self.happen_armed(alloc, was, rest, armed.fault, drawn, event)
     }
 
     /// An event happens at whose node this call is armed, as far as that lets it.
-    #[tactic(auto, using(crate::proofs::EventCounts::one_too_many))]
+    #[tactic(auto, using(crate::proofs::EventCounts::too_many_so))]
     pub(crate) fn meet(
         self,
         alloc: Global,
@@ -81,8 +87,8 @@ impl Course {
     {
         let was = self.armed_at(node);
         let event = line_struck(alloc, node, fault);
-        let (course, _left) = self.happen(alloc, Some(fault), drawn, event)?;
-        Ok(course.note_at(node, was, None)?)
+        let rest = Rest::Known { armed: None };
+        self.happen_armed(alloc, was, rest, fault, drawn, event)
     }
 
     /// Raw bytes come to a node at which a call is armed.
@@ -144,8 +150,7 @@ impl Course {
         match self.armed_at(node) {
             None => {
                 let event = turn(alloc, node, Input::Raw);
-                let (course, _left) = self.happen(alloc, None, drawn, event)?;
-                Ok(course.note(None)?)
+                self.happen_unarmed(alloc, drawn, event)
             }
             Some(armed) => {
                 let says = waits && self.is_up(node);

@@ -6,4 +6,4 @@ use Rattle.net_replay.proofs.followed.follow_all.Given as goal
 
 abbrev pub invariant-loop-place : goal.invariant-loop-place
 invariant-loop-place l =
-    (l.raw ≤ l.place) × ((count : ℕ) (w : World) → count ≤ 8 → MirrorsAt count l.fn.net w → Until count l.fn.net w l.fn.events l.fn.raws l.place l.raw l.net)
+    (l.raw ≤ l.place) × ((count : ℕ) (w : World) → count ≤ 8 → MirrorsAt count l.fn.net w → Until count l.fn.net w l.fn.events l.fn.raws l.fn.met l.place l.raw l.net)
