@@ -1,3 +1,5 @@
 mod Places
 mod Rising
+mod Kept
+mod Retained
 pub mod Found

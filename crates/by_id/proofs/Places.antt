@@ -1,46 +1,98 @@
--- Giving and dropping the item at a place is giving and dropping the item of an id.
-use Rattle.std.proofs.Common.{List, [], ◌∷◌, Some, None, ◌≡◌, ◌≤◌, ◌<◌, ◌∙◌, sym, refl, length, suc, ap, true, false, cond, arith, slice_set, remove}
-use Rattle.std.specs.Prelude.{Option, MatchOption, HoldsAt, option_copied, slice_get, slice_index_or}
-use Rattle.std.specs.Borrow.{Bor}
+-- Writing at the place of an id is giving, dropping and moving the item of that id.
+use Rattle.std.proofs.Common.{ℕ, Bool, List, [], ◌∷◌, ◌++◌, Some, None, ◌≡◌, ◌≤◌, ◌<◌, ◌+◌, ◌∙◌, sym, refl, length, suc, ap, true, false, cond, arith, slice_set, filter, map}
+use Rattle.std.specs.Prelude.{HoldsAt, option_and_then, slice_get, slice_index_or}
 use Rattle.std.proofs.lemmas.Option.{slice_get_past, slice_get_read}
 use Rattle.at_base.specs.Numbers.{Numbers}
 use Rattle.at_model.specs.Book.{find_by, is_id, put_by}
-use Rattle.by_id.specs.Lists.{move_by, place_by}
+use Rattle.by_id.specs.Lists.{move_by}
+use Rattle.by_id.specs.Places.{held, is_live, left, moved_at, place_by}
+use Rattle.by_id.specs.declared.place.Place.{Place}
+use Rattle.by_id.specs.declared.place.Place.TheVariants as places
 
-pub replace_at : {A : Type 0} (key : A → Numbers) (id : Numbers) (u : A) (xs : List A) → slice_set xs (place_by key id xs) u ≡ put_by key id (Some u) xs
-replace_at key id u [] = refl
-replace_at key id u (x ∷ xs) = grind (arith, replace_at key id u xs)
+module _ {A : Type 0} (key : A → Numbers) (id : Numbers) where
+  pub replace_at : (u : A) (ps : List (Place A)) → left (slice_set ps (place_by key id ps) (places.Live u)) ≡ put_by key id (Some u) (left ps)
+  replace_at u [] = refl
+  replace_at u (places.Live x ∷ ps) = grind (arith, replace_at u ps)
+  replace_at u (places.Gone gone ∷ ps) = replace_at u ps
 
-pub replace_none : {A : Type 0} (key : A → Numbers) (id : Numbers) (u : A) (xs : List A) → length xs ≤ place_by key id xs → put_by key id (Some u) xs ≡ xs
-replace_none key id u [] h = refl
-replace_none key id u (x ∷ xs) h = grind (arith, replace_none key id u xs)
+  pub replace_none : (u : A) (ps : List (Place A)) → length ps ≤ place_by key id ps → put_by key id (Some u) (left ps) ≡ left ps
+  replace_none u [] h = refl
+  replace_none u (places.Live x ∷ ps) h = grind (arith, replace_none u ps)
+  replace_none u (places.Gone gone ∷ ps) h = replace_none u ps (omega arith)
 
-pub move_at : {A M : Type 0} (key : A → Numbers) (moved : M → A → A) (id : Numbers) (by : M) (d : A) (xs : List A)
-    → slice_set xs (place_by key id xs) (moved by (slice_index_or xs (place_by key id xs) d)) ≡ move_by key moved id by xs
-move_at key moved id by d [] = refl
-move_at key moved id by d (x ∷ xs) = grind (arith, move_at key moved id by d xs)
+  pub drop_at : (gone : Numbers) (ps : List (Place A)) → left (slice_set ps (place_by key id ps) (places.Gone gone)) ≡ put_by key id None (left ps)
+  drop_at gone [] = refl
+  drop_at gone (places.Live x ∷ ps) = grind (arith, drop_at gone ps)
+  drop_at gone (places.Gone other ∷ ps) = drop_at gone ps
 
-pub move_none : {A M : Type 0} (key : A → Numbers) (moved : M → A → A) (id : Numbers) (by : M) (xs : List A) → length xs ≤ place_by key id xs → move_by key moved id by xs ≡ xs
-move_none key moved id by [] h = refl
-move_none key moved id by (x ∷ xs) h = grind (arith, move_none key moved id by xs)
+  pub drop_none : (ps : List (Place A)) → length ps ≤ place_by key id ps → put_by key id None (left ps) ≡ left ps
+  drop_none [] h = refl
+  drop_none (places.Live x ∷ ps) h = grind (arith, drop_none ps)
+  drop_none (places.Gone gone ∷ ps) h = drop_none ps (omega arith)
 
-pub drop_at : {A : Type 0} (key : A → Numbers) (id : Numbers) (xs : List A) → remove xs (place_by key id xs) ≡ put_by key id None xs
-drop_at key id [] = refl
-drop_at key id (x ∷ xs) = elim (is_id (key x) id) as (λ b. remove (x ∷ xs) (cond b 0 (suc (place_by key id xs))) ≡ cond b xs (x ∷ put_by key id None xs)) [
-  | true ↦ refl
-  | false ↦ ap (λ ys. x ∷ ys) (drop_at key id xs)
-]
+  pub move_at : {M : Type 0} (moved : M → A → A) (by : M) (d : Place A) (ps : List (Place A))
+      → left (slice_set ps (place_by key id ps) (moved_at moved by (slice_index_or ps (place_by key id ps) d))) ≡ move_by key moved id by (left ps)
+  move_at moved by d [] = refl
+  move_at moved by d (places.Live x ∷ ps) = grind (arith, move_at moved by d ps)
+  move_at moved by d (places.Gone gone ∷ ps) = move_at moved by d ps
 
-pub drop_none : {A : Type 0} (key : A → Numbers) (id : Numbers) (xs : List A) → length xs ≤ place_by key id xs → put_by key id None xs ≡ xs
-drop_none key id [] h = refl
-drop_none key id (x ∷ xs) h = grind (arith, drop_none key id xs)
+  pub move_none : {M : Type 0} (moved : M → A → A) (by : M) (ps : List (Place A)) → length ps ≤ place_by key id ps → move_by key moved id by (left ps) ≡ left ps
+  move_none moved by [] h = refl
+  move_none moved by (places.Live x ∷ ps) h = grind (arith, move_none moved by ps)
+  move_none moved by (places.Gone gone ∷ ps) h = move_none moved by ps (omega arith)
 
-find_at : {A : Type 0} (key : A → Numbers) (id : Numbers) (xs : List A) → slice_get xs (place_by key id xs) ≡ find_by key id xs
-find_at key id [] = refl
-find_at key id (x ∷ xs) = grind (arith, find_at key id xs)
+  find_at : (ps : List (Place A)) → option_and_then held (slice_get ps (place_by key id ps)) ≡ find_by key id (left ps)
+  find_at [] = refl
+  find_at (places.Live x ∷ ps) = grind (arith, find_at ps)
+  find_at (places.Gone gone ∷ ps) = find_at ps
 
--- what stands at the place of an id is what is found by it
-pub found_by : {A : Type 0} (key : A → Numbers) (id : Numbers) (xs : List A) (r : Option (Bor A))
-    → MatchOption r (length xs ≤ place_by key id xs) (λ x. (place_by key id xs < length xs) × HoldsAt (λ y. x.now ≡ y) xs (place_by key id xs)) → option_copied r ≡ find_by key id xs
-found_by key id xs None past = sym (slice_get_past xs _ past) ∙ find_at key id xs
-found_by key id xs (Some x) here = sym (slice_get_read xs (length xs) _ x.now refl here.0 (here.1 x.now)) ∙ find_at key id xs
+  pub item_none : (ps : List (Place A)) → length ps ≤ place_by key id ps → None ≡ find_by key id (left ps)
+  item_none ps past = ap (option_and_then held) (sym (slice_get_past ps _ past)) ∙ find_at ps
+
+  pub item_at : (p : Place A) (ps : List (Place A)) → place_by key id ps < length ps → HoldsAt (λ q. p ≡ q) ps (place_by key id ps) → held p ≡ find_by key id (left ps)
+  item_at p ps here there = ap (option_and_then held) (sym (slice_get_read ps (length ps) _ p refl here (there p))) ∙ find_at ps
+
+  -- how many are left
+  pub replaced_length : (u : A) (xs : List A) → length (put_by key id (Some u) xs) ≡ length xs
+  replaced_length u [] = refl
+  replaced_length u (x ∷ xs) = grind (arith, replaced_length u xs)
+
+  pub moved_length : {M : Type 0} (moved : M → A → A) (by : M) (xs : List A) → length (move_by key moved id by xs) ≡ length xs
+  moved_length moved by [] = refl
+  moved_length moved by (x ∷ xs) = grind (arith, moved_length moved by xs)
+
+  pub dropped_length : (ps : List (Place A)) → place_by key id ps < length ps → length (put_by key id None (left ps)) + 1 ≡ length (left ps)
+  dropped_length [] h = absurd (omega arith)
+  dropped_length (places.Live x ∷ ps) h = grind (arith, dropped_length ps)
+  dropped_length (places.Gone gone ∷ ps) h = dropped_length ps (omega arith)
+
+module _ {A : Type 0} where
+  -- each place holds an item
+  pub left_all : (xs : List A) → left (map places.Live xs) ≡ xs
+  left_all [] = refl
+  left_all (x ∷ xs) = ap (λ ys. x ∷ ys) (left_all xs)
+
+  pub length_all : (xs : List A) → length (map places.Live xs) ≡ length xs
+  length_all [] = refl
+  length_all (x ∷ xs) = ap suc (length_all xs)
+
+  -- what is packed
+  pub left_packed : (ps : List (Place A)) → left (filter is_live ps) ≡ left ps
+  left_packed [] = refl
+  left_packed (places.Live x ∷ ps) = ap (λ xs. x ∷ xs) (left_packed ps)
+  left_packed (places.Gone gone ∷ ps) = left_packed ps
+
+  pub length_packed : (ps : List (Place A)) → length (filter is_live ps) ≡ length (left ps)
+  length_packed [] = refl
+  length_packed (places.Live x ∷ ps) = ap suc (length_packed ps)
+  length_packed (places.Gone gone ∷ ps) = length_packed ps
+
+  pub left_pushed : (x : A) (ps : List (Place A)) → left (ps ++ places.Live x ∷ []) ≡ left ps ++ x ∷ []
+  left_pushed x [] = refl
+  left_pushed x (places.Live y ∷ ps) = ap (λ xs. y ∷ xs) (left_pushed x ps)
+  left_pushed x (places.Gone gone ∷ ps) = left_pushed x ps
+
+  pub left_few : (ps : List (Place A)) → length (left ps) ≤ length ps
+  left_few [] = omega arith
+  left_few (places.Live x ∷ ps) = omega (arith, left_few ps)
+  left_few (places.Gone gone ∷ ps) = omega (arith, left_few ps)

@@ -10,7 +10,10 @@ use Rattle.std.proofs.lemmas.List.Quantifiers.{all_pairs_push}
 use Rattle.at_base.specs.Numbers.{Numbers}
 use Rattle.at_model.specs.Book.{is_id}
 use Rattle.at_model.specs.Recovery.{is_before}
-use Rattle.by_id.specs.Lists.{IsRising, next_due, place_by}
+use Rattle.by_id.specs.Lists.{IsRising, next_due}
+use Rattle.by_id.specs.Places.{holds, id_at, left, place_by}
+use Rattle.by_id.specs.declared.place.Place.{Place}
+use Rattle.by_id.specs.declared.place.Place.TheVariants as places
 
 before_trans : (a b c : Numbers) → is_before a b ≡ true → is_before b c ≡ true → is_before a c ≡ true
 before_trans a b c e f = grind (arith)
@@ -21,8 +24,8 @@ not_behind a b e = grind (arith)
 distinct : (a b : Numbers) → is_before a b ≡ true → is_id a b ≡ false
 distinct a b e = grind (arith)
 
-past : (a b id : Numbers) → is_before a id ≡ false → is_id a id ≡ false → is_before a b ≡ true → is_id b id ≡ false
-past a b id e f h = grind (arith)
+past : (a b id : Numbers) → is_before a id ≡ false → is_before a b ≡ true → is_id b id ≡ false
+past a b id e f = grind (arith)
 
 same_by : (a b id : Numbers) → is_id a id ≡ true → is_id b id ≡ true → a ≡ b
 same_by a b id e f = grind (arith)
@@ -44,31 +47,6 @@ module _ {A : Type 0} (key : A → Numbers) where
   pub partitioned : (id : Numbers) (xs : List A) → IsRising key xs → IsPartitionedBy (λ x. is_before (key x) id) xs
   partitioned id xs up i j d le l e = grind (arith, up i j d, before_trans (key (get_or xs i d)) (key (get_or xs j d)) id)
 
-  place_is : (id : Numbers) (xs : List A) (i : ℕ) → i ≤ length xs → AllWithin (λ x. is_id (key x) id ≡ false) xs 0 i
-      → (i < length xs → HoldsAt (λ x. is_id (key x) id ≡ true) xs i) → place_by key id xs ≡ i
-  place_is id [] i le others here = omega arith
-  place_is id (x ∷ xs) zero le others here = rw (here (omega arith) x) refl
-  place_is id (x ∷ xs) (suc i) le others here =
-      rw (others 0 x (omega arith) (omega arith)) (ap suc (place_is id xs i (omega arith) (λ k d z l. others (suc k) d (omega arith) (omega arith)) (λ l d. here (omega arith) d)))
-
-  pub found_at : (id : Numbers) (xs : List A) (i : ℕ) → Parts id xs i → i < length xs → HoldsAt (λ x. is_id (key x) id ≡ true) xs i → i ≡ place_by key id xs
-  found_at id xs i parts l here = sym (place_is id xs i (omega arith) (λ k d z b. distinct (key (get_or xs k d)) id (parts.0 k d z b)) (λ _. here))
-
-  pub found_none : (id : Numbers) (xs : List A) (i : ℕ) → IsRising key xs → Parts id xs i → (i < length xs → HoldsAt (λ x. is_id (key x) id ≡ false) xs i)
-      → length xs ≡ place_by key id xs
-  found_none id xs i up parts other = sym (place_is id xs (length xs) (omega arith) none (λ l. absurd (omega arith)))
-    where
-      none : AllWithin (λ x. is_id (key x) id ≡ false) xs 0 (length xs)
-      none k d z l = grind (arith, parts.0 k d, parts.1 i d, other, up i k d, distinct (key (get_or xs k d)) id, past (key (get_or xs i d)) (key (get_or xs k d)) id)
-
-  -- what was drawn before an id isn't behind it
-  pub next_from : (due : A → Bool) (last : Numbers) (xs : List A) (i : ℕ) → AllWithin (λ x. is_before (key x) last ≡ true) xs 0 i
-      → next_due key due (Some last) (drop i xs) ≡ next_due key due (Some last) xs
-  next_from due last xs zero before = refl
-  next_from due last [] (suc i) before = refl
-  next_from due last (x ∷ xs) (suc i) before =
-      rw (not_behind (key x) last (before 0 x (omega arith) (omega arith))) (next_from due last xs i (λ k d z l. before (suc k) d (omega arith) (omega arith)))
-
   -- each comes before its neighbour, so before all later ones
   pub rising_when : (xs : List A) → AllAdjacentBelow Before xs (length xs) → IsRising key xs
   rising_when xs near i zero d lt l = absurd (omega arith)
@@ -86,21 +64,6 @@ module _ {A : Type 0} (key : A → Numbers) where
       below : (k : ℕ) (d : A) → k < length xs → Before (get_or xs k d) y
       below k d l = grind (arith, last d, up k (length xs - 1) d, before_trans (key (get_or xs k d)) (key (get_or xs (length xs - 1) d)) (key y))
 
-  keys_kept : (id : Numbers) (u : A) (xs : List A) → is_id (key u) id ≡ true → (k : ℕ) (d : A) → key (get_or (slice_set xs (place_by key id xs) u) k d) ≡ key (get_or xs k d)
-  keys_kept id u [] same k d = refl
-  keys_kept id u (x ∷ xs) same k d = by (is_id (key x) id) refl k (λ n. keys_kept id u xs same n d)
-    where
-      by : (b : Bool) → is_id (key x) id ≡ b → (n : ℕ) → ((m : ℕ) → key (get_or (slice_set xs (place_by key id xs) u) m d) ≡ key (get_or xs m d))
-          → key (get_or (slice_set (x ∷ xs) (if b then 0 else suc (place_by key id xs)) u) n d) ≡ key (get_or (x ∷ xs) n d)
-      by true e zero rest = same_by (key u) (key x) id same e
-      by true e (suc n) rest = refl
-      by false e zero rest = refl
-      by false e (suc n) rest = rest n
-
-  -- an item given anew under its own id
-  pub rising_replaced : (id : Numbers) (u : A) (xs : List A) → is_id (key u) id ≡ true → IsRising key xs → IsRising key (slice_set xs (place_by key id xs) u)
-  rising_replaced id u xs same up i j d lt l = rw (keys_kept id u xs same i d, keys_kept id u xs same j d) (up i j d lt (grind (arith, common_steps)))
-
   -- what is kept of a list
   pub rising_kept : (bs : List Bool) (xs : List A) → IsRising key xs → IsRising key (items_where_true bs xs)
   rising_kept [] xs up = λ i j d lt l. absurd (omega arith)
@@ -108,3 +71,61 @@ module _ {A : Type 0} (key : A → Numbers) where
   rising_kept (true ∷ bs) (x ∷ xs) up =
       AllPairs-cons Before x _ (all_kept (Before x) bs xs (λ k d l. up 0 (suc k) d (omega arith) (omega arith))) (rising_kept bs xs (λ i j d lt l. up (suc i) (suc j) d (omega arith) (omega arith)))
   rising_kept (false ∷ bs) (x ∷ xs) up = rising_kept bs xs (λ i j d lt l. up (suc i) (suc j) d (omega arith) (omega arith))
+
+-- places, whose ids are those of the items that stand or stood there
+module _ {A : Type 0} (key : A → Numbers) where
+  other : (id : Numbers) (p : Place A) → is_id (id_at key p) id ≡ false → holds key id p ≡ false
+  other id (places.Live x) e = e
+  other id (places.Gone gone) e = refl
+
+  place_is : (id : Numbers) (ps : List (Place A)) (i : ℕ) → i ≤ length ps → AllWithin (λ p. holds key id p ≡ false) ps 0 i
+      → (i < length ps → HoldsAt (λ p. holds key id p ≡ true) ps i) → place_by key id ps ≡ i
+  place_is id [] i le others here = omega arith
+  place_is id (p ∷ ps) zero le others here = rw (here (omega arith) p) refl
+  place_is id (p ∷ ps) (suc i) le others here =
+      rw (others 0 p (omega arith) (omega arith)) (ap suc (place_is id ps i (omega arith) (λ k d z l. others (suc k) d (omega arith) (omega arith)) (λ l d. here (omega arith) d)))
+
+  pub found_at : (id : Numbers) (ps : List (Place A)) (i : ℕ) → Parts (id_at key) id ps i → i < length ps → HoldsAt (λ p. holds key id p ≡ true) ps i → i ≡ place_by key id ps
+  found_at id ps i parts l here = sym (place_is id ps i (omega arith) (λ k d z b. other id (get_or ps k d) (distinct (id_at key (get_or ps k d)) id (parts.0 k d z b))) (λ _. here))
+
+  pub found_none : (id : Numbers) (ps : List (Place A)) (i : ℕ) → IsRising (id_at key) ps → Parts (id_at key) id ps i → (i < length ps → HoldsAt (λ p. holds key id p ≡ false) ps i)
+      → length ps ≡ place_by key id ps
+  found_none id ps i up parts gone = sym (place_is id ps (length ps) (omega arith) none (λ l. absurd (omega arith)))
+    where
+      none : AllWithin (λ p. holds key id p ≡ false) ps 0 (length ps)
+      none k d z l = grind (
+        arith,
+        parts.0 k d,
+        parts.1 i d,
+        gone,
+        up i k d,
+        other id (get_or ps k d),
+        distinct (id_at key (get_or ps k d)) id,
+        past (id_at key (get_or ps i d)) (id_at key (get_or ps k d)) id,
+      )
+
+  -- what was drawn before an id isn't behind it
+  pub next_from : (due : A → Bool) (last : Numbers) (ps : List (Place A)) (i : ℕ) → AllWithin (λ p. is_before (id_at key p) last ≡ true) ps 0 i
+      → next_due key due (Some last) (left (drop i ps)) ≡ next_due key due (Some last) (left ps)
+  next_from due last ps zero before = refl
+  next_from due last [] (suc i) before = refl
+  next_from due last (places.Live x ∷ ps) (suc i) before =
+      rw (not_behind (key x) last (before 0 (places.Live x) (omega arith) (omega arith))) (next_from due last ps i (λ k d z l. before (suc k) d (omega arith) (omega arith)))
+  next_from due last (places.Gone gone ∷ ps) (suc i) before = next_from due last ps i (λ k d z l. before (suc k) d (omega arith) (omega arith))
+
+  ids_kept : (id : Numbers) (q : Place A) (ps : List (Place A)) → is_id (id_at key q) id ≡ true → (k : ℕ) (d : Place A)
+      → id_at key (get_or (slice_set ps (place_by key id ps) q) k d) ≡ id_at key (get_or ps k d)
+  ids_kept id q [] same k d = refl
+  ids_kept id q (p ∷ ps) same k d = by p (holds key id p) refl k (λ n. ids_kept id q ps same n d)
+    where
+      by : (p : Place A) (b : Bool) → holds key id p ≡ b → (n : ℕ) → ((m : ℕ) → id_at key (get_or (slice_set ps (place_by key id ps) q) m d) ≡ id_at key (get_or ps m d))
+          → id_at key (get_or (slice_set (p ∷ ps) (if b then 0 else suc (place_by key id ps)) q) n d) ≡ id_at key (get_or (p ∷ ps) n d)
+      by (places.Live x) true e zero rest = same_by (id_at key q) (key x) id same e
+      by (places.Gone gone) true e zero rest = absurd cc
+      by p true e (suc n) rest = refl
+      by p false e zero rest = refl
+      by p false e (suc n) rest = rest n
+
+  -- an item given anew, moved or dropped under its own id
+  pub rising_written : (id : Numbers) (q : Place A) (ps : List (Place A)) → is_id (id_at key q) id ≡ true → IsRising (id_at key) ps → IsRising (id_at key) (slice_set ps (place_by key id ps) q)
+  rising_written id q ps same up i j d lt l = rw (ids_kept id q ps same i d, ids_kept id q ps same j d) (up i j d lt (grind (arith, common_steps)))

@@ -1,4 +1,5 @@
 pub mod Lists
+pub mod Places
 pub mod Fates
 pub mod Unmoved
 pub mod Plans

@@ -1,5 +1,5 @@
 -- Lists of live items that are found by their ids, in the order of making, as the model's book has them.
-use Rattle.std.specs.Prelude.{ℕ, List, [], ◌∷◌, ◌++◌, Option, Some, None, Bool, true, false, nat_lt, ◌≡◌, ◌&&◌, if◌then◌else◌, length, suc}
+use Rattle.std.specs.Prelude.{ℕ, List, [], ◌∷◌, ◌++◌, Option, Some, None, Bool, true, false, nat_lt, ◌≡◌, ◌&&◌, if◌then◌else◌, length}
 use Rattle.std.specs.List.{AllPairs}
 use Rattle.at_base.specs.declared.limits.TheConstants.{MOST_ITEMS}
 use Rattle.at_base.specs.Numbers.{Numbers}
@@ -7,11 +7,6 @@ use Rattle.at_model.specs.Book.{is_id, put_by}
 use Rattle.at_model.specs.Recovery.{is_before}
 use Rattle.by_id.specs.declared.list.Alteration.{Alteration}
 use Rattle.by_id.specs.declared.list.Alteration.TheVariants as alterations
-
--- the place of the item with this id, or the length where there is none
-abbrev pub place_by : {A : Type 0} → (A → Numbers) → Numbers → List A → ℕ
-place_by key id [] = 0
-place_by key id (x ∷ xs) = if is_id (key x) id then 0 else suc (place_by key id xs)
 
 -- each item's id was drawn before those of all later ones
 abbrev pub IsRising : {A : Type 0} → (A → Numbers) → List A → Type 0

@@ -1,15 +1,20 @@
 //! A list of live items, with room for as many as a node takes.
 
-ghost use Rattle.std.specs.Prelude.{Bool, ◌≡◌, ◌≤◌, ◌++◌, ◌∷◌, IfOk, [], option_copied, length, Some, None, true, false};
+ghost use Rattle.std.specs.Prelude.{Bool, ◌≡◌, ◌≤◌, ◌*◌, ◌++◌, ◌∷◌, IfOk, [], option_copied, length, map, Some, None, true, false};
 ghost use Rattle.std.specs.Fn.{CalledAt};
 ghost use Rattle.std.specs.List.Retain.{IsFiltered};
 ghost use Rattle.std.specs.List.Sorted.{IsPartitionPoint};
+ghost use Rattle.std.specs.Vec.{vec_capacity};
 ghost use Rattle.at_base.specs.Numbers.{Numbers};
 ghost use Rattle.at_base.specs.declared.event.Moment.{Moment};
+ghost use Rattle.at_base.specs.declared.limits.TheConstants.{MOST_ITEMS};
 ghost use Rattle.at_model.specs.Book.{is_id, find_by, put_by};
 ghost use Rattle.at_model.specs.Recovery.{is_before};
-ghost use Rattle.by_id.specs.Lists.{IsRising, add_to, altered, is_addition, is_behind, move_by, next_due, place_by};
+ghost use Rattle.by_id.specs.Lists.{IsRising, add_to, altered, is_addition, is_behind, move_by, next_due};
+ghost use Rattle.by_id.specs.Places.{id_at, left, place_by, told_at};
+ghost use Rattle.by_id.specs.declared.place.Place.TheVariants as place;
 
+use crate::place::{Items, Place};
 use at_base::event::Moment;
 use at_base::id::Id;
 use at_base::limits::MOST_ITEMS;
@@ -67,25 +72,30 @@ impl<T, M> Alteration<T, M> {
 
 /// Live items in the order of making.
 ///
-/// It is made with the room that `MOST_ITEMS` items need, so that adding one takes no memory. It knows whether ids rise
-/// in it, which they do in every node, and then an item is found by halving; else by a walk.
+/// An item that goes leaves its id at its place, so that no other moves. Where more have gone than live, the places of
+/// those are left out: so dropping an item is O(1), over many of them. Adding one is O(1) and takes no memory, since the
+/// list is made with the room that `MOST_ITEMS` items need.
+///
+/// The list knows whether ids rise in it, which they do in every node, and then an item is found by halving; else by a
+/// walk.
 #[derive(Drop)]
 pub struct ById<T: Identified> {
-    items: Vec<T>,
+    places: Vec<Place<T>>,
+    live: usize,
     rising: bool,
 }
 
 impl<T: Identified> Model for ById<T> {
-    ghost use Rattle.std.specs.Prelude.{List, ◌≡◌, ◌≤◌, true};
+    ghost use Rattle.std.specs.Prelude.{List, ◌≤◌, ◌*◌};
     ghost use Rattle.std.specs.Vec.{vec_capacity};
     ghost use Rattle.at_base.specs.declared.limits.TheConstants.{MOST_ITEMS};
-    ghost use Rattle.by_id.specs.Lists.{IsRising};
+    ghost use Rattle.by_id.specs.Places.{IsKept, left};
 
     ghost Value = { List T };
 
-    ghost view = { λ k. k.items.items };
+    ghost view = { λ k. left k.places.items };
 
-    ghost invariant = { λ k. (MOST_ITEMS ≤ vec_capacity k.items) × (k.rising ≡ true → IsRising T.id_of k.items.items) };
+    ghost invariant = { λ k. IsKept T.id_of k.rising k.live k.places.items × (2 * MOST_ITEMS ≤ vec_capacity k.places) };
 }
 
 impl<T: Identified + Drop> ById<T> {
@@ -94,51 +104,46 @@ impl<T: Identified + Drop> ById<T> {
         ensures { IfOk result (λ list. list ≡ []) }
     {
         Ok(ById {
-            items: Vec::with_capacity(alloc, MOST_ITEMS)?,
+            places: Vec::with_capacity(alloc, 2 * MOST_ITEMS)?,
+            live: 0,
             rising: true,
         })
     }
 
     /// The items of a recovered node, with room for `MOST_ITEMS`.
-    pub fn from_vec(mut items: Vec<T>) -> Result<ById<T>, AllocError>
+    pub fn from_vec(items: Vec<T>) -> Result<ById<T>, AllocError>
         ensures { IfOk result (λ list. list ≡ items.items) }
     {
-        items.reserve(MOST_ITEMS)?;
-        let rising = is_rising(items.as_slice());
-        Ok(ById { items, rising })
+        let live = items.len();
+        let places = places_of(items)?;
+        let rising = is_rising(places.as_slice());
+        Ok(ById {
+            places,
+            live,
+            rising,
+        })
     }
 
     /// The items, in the order of making.
-    pub fn as_slice(&self) -> &[T]
-        ensures { result.now ≡ self.now }
+    pub fn iter(&self) -> Items<'_, T>
+        ensures { result ≡ self.now }
     {
-        self.items.as_slice()
+        Items::new(self.places.as_slice())
     }
 
     /// How many items live.
     pub fn len(&self) -> usize
         ensures { result ≡ length self.now }
     {
-        self.items.len()
+        self.live
     }
 
     /// The item of this id. It is found by halving where ids rise, which they do in every node; else by a walk.
     pub fn find(&self, id: Id) -> Option<&T>
         ensures { option_copied result ≡ find_by T.id_of id self.now }
     {
-        self.items.as_slice().get(self.place(id))
-    }
-
-    /// The place of the item of this id, or the length where there is none.
-    fn place(&self, id: Id) -> usize
-        ensures { result ≡ place_by T.id_of id self.now }
-    {
-        let items = self.items.as_slice();
-        if self.rising {
-            halve_to(items, id)
-        } else {
-            walk_to(items, id)
-        }
+        let places = self.places.as_slice();
+        places.get(place_in(places, self.rising, id))?.item()
     }
 
     /// Gives the item of this id anew; nothing where there is none.
@@ -146,21 +151,23 @@ impl<T: Identified + Drop> ById<T> {
     fn replace(&mut self, id: Id, item: T)
         ensures { self.new ≡ put_by T.id_of id (Some item) self.old }
     {
-        let place = self.place(id);
-        if place < self.items.len() {
+        let place = place_in(self.places.as_slice(), self.rising, id);
+        if place < self.places.len() {
             self.rising = self.rising && is_same(item.id(), id);
-            self.items[place] = item;
+            self.places[place] = Place::Live(item);
         }
     }
 
     /// Drops the item of this id; nothing where there is none.
-    #[tactic(auto, using(crate::proofs::Places::drop_at, crate::proofs::Places::drop_none))]
+    #[tactic(auto, using(crate::proofs::Places::drop_at, crate::proofs::Places::drop_none, crate::proofs::Places::dropped_length))]
     fn remove(&mut self, id: Id)
         ensures { self.new ≡ put_by T.id_of id None self.old }
     {
-        let place = self.place(id);
-        if place < self.items.len() {
-            let _ = self.items.remove(place);
+        let place = place_in(self.places.as_slice(), self.rising, id);
+        if place < self.places.len() {
+            self.places[place] = Place::Gone(id);
+            self.live -= 1;
+            pack(&mut self.places, self.live);
         }
     }
 
@@ -179,31 +186,49 @@ impl<T: Identified + Drop> ById<T> {
     fn make(&mut self, id: Id, by: T::Move)
         ensures { self.new ≡ move_by T.id_of T.moved id by self.old }
     {
-        let place = self.place(id);
-        if place < self.items.len() {
-            self.items[place].make(by);
-            self.rising = self.rising && is_same(self.items[place].id(), id);
+        let place = place_in(self.places.as_slice(), self.rising, id);
+        if place < self.places.len() {
+            let moved = &mut self.places[place];
+            moved.make(by);
+            let same = is_same(moved.id(), id);
+            self.rising = self.rising && same;
         }
     }
 
     /// Adds an item at the end, which takes no memory; nothing where `MOST_ITEMS` live.
+    #[tactic(auto, using(crate::proofs::Places::left_pushed))]
     pub fn add(&mut self, item: T)
         ensures { self.new ≡ add_to item self.old }
     {
-        if self.items.len() < MOST_ITEMS {
-            self.rising = self.rising && is_next(self.items.as_slice(), &item);
-            let Ok(()) = self.items.push(item) else {
+        if self.live < MOST_ITEMS {
+            self.rising = self.rising && is_next(self.places.as_slice(), &item);
+            let Ok(()) = self.places.push(Place::Live(item)) else {
                 unreachable!()
             };
+            self.live += 1;
         }
     }
 
     /// Keeps the items at which `keeps` answers `true`, in their order. It takes no memory.
-    pub fn retain<F: FnMut(&T) -> bool>(&mut self, keeps: F)
+    pub fn retain<F: FnMut(&T) -> bool>(&mut self, mut keeps: F)
         requires { F.IsAlwaysCallable keeps }
         ensures { IsFiltered (CalledAt F.FnMut) keeps self.old self.new }
     {
-        self.items.retain(keeps);
+        let before = self.places.len();
+        self.places.retain(
+            |place: &Place<T>| -> bool
+                requires { F.IsAlwaysCallable keeps }
+                ensures told { told_at (CalledAt F.FnMut) keeps.entry place.now result keeps.exit }
+                ensures callable { F.IsAlwaysCallable keeps.exit }
+            {
+                match place {
+                    Place::Live(item) => keeps(item),
+                    Place::Gone(_) => true,
+                }
+            },
+        );
+        self.live -= before - self.places.len();
+        pack(&mut self.places, self.live);
     }
 
     /// Takes an alteration over. It takes no memory, and cannot fail.
@@ -225,83 +250,123 @@ impl<T: Identified + Drop> ById<T> {
     pub fn next_due(&self, after: Option<Id>, moment: &Moment) -> Option<Id>
         ensures { result ≡ next_due T.id_of (T.is_due_at moment.entry.now) after self.now }
     {
-        let items = self.items.as_slice();
+        let places = self.places.as_slice();
         let start = match after {
-            Some(last) if self.rising => first_from(items, last),
+            Some(last) if self.rising => first_from(places, last),
             _ => 0,
         };
-        first_due(&items[start..], &after, moment)
+        first_due(&places[start..], &after, moment)
     }
 }
 
-/// Whether ids rise in the order of these items.
-fn is_rising<T: Identified>(items: &[T]) -> bool
-    ensures { result ≡ true → IsRising T.id_of items.now }
+/// A place for each of these items, and room for `2 * MOST_ITEMS`.
+fn places_of<T: Drop>(items: Vec<T>) -> Result<Vec<Place<T>>, AllocError>
+    ensures items { IfOk result (λ places. places.items ≡ map place.Live items.items) }
+    ensures room { IfOk result (λ places. 2 * MOST_ITEMS ≤ vec_capacity places) }
 {
-    items.is_sorted_by(
-        |item: &T, next: &T| -> bool
-            ensures { result ≡ is_before (T.id_of item.now) (T.id_of next.now) }
-        { is_before(item.id(), next.id()) },
+    let mut places = Vec::with_capacity(*items.allocator(), 2 * MOST_ITEMS)?;
+    for item in items {
+        places.push(Place::Live(item))?;
+    }
+    Ok(places)
+}
+
+/// Leaves out the places of items that have gone, where those are more than live.
+#[tactic(auto, using(crate::proofs::Places::left_few))]
+fn pack<T: Drop>(places: &mut Vec<Place<T>>, live: usize)
+    requires { live ≡ length (left places.old.items) }
+    ensures left { left places.new.items ≡ left places.old.items }
+    ensures few { length places.new.items ≤ 2 * live }
+    ensures room { vec_capacity places.new ≡ vec_capacity places.old }
+    ensures rising { (key : T → Numbers) → IsRising (id_at key) places.old.items → IsRising (id_at key) places.new.items }
+{
+    if places.len() - live > live {
+        places.retain(|place: &Place<T>| place.is_live());
+    }
+}
+
+/// Whether ids rise in the order of these places.
+fn is_rising<T: Identified>(places: &[Place<T>]) -> bool
+    ensures { result ≡ true → IsRising (id_at T.id_of) places.now }
+{
+    places.is_sorted_by(
+        |place: &Place<T>, next: &Place<T>| -> bool
+            ensures { result ≡ is_before (id_at T.id_of place.now) (id_at T.id_of next.now) }
+        { is_before(place.id(), next.id()) },
     )
 }
 
-/// Whether this item's id comes behind the last one of these items.
-fn is_next<T: Identified>(items: &[T], item: &T) -> bool
-    ensures { result ≡ true → IsRising T.id_of items.now → IsRising T.id_of (items.now ++ item.now ∷ []) }
+/// Whether this item's id comes behind that of the last one of these places.
+fn is_next<T: Identified>(places: &[Place<T>], item: &T) -> bool
+    ensures { result ≡ true → IsRising (id_at T.id_of) places.now
+        → IsRising (id_at T.id_of) (places.now ++ place.Live item.now ∷ []) }
 {
-    match items.last() {
+    match places.last() {
         Some(last) => is_before(last.id(), item.id()),
         None => true,
     }
 }
 
-/// The place of the first item whose id doesn't come before this one, or the length where there is none, by halving.
-fn first_from<T: Identified>(items: &[T], id: Id) -> usize
-    requires { IsRising T.id_of items.now }
-    ensures bound { result ≤ length items.now }
-    ensures place { IsPartitionPoint (λ x. is_before (T.id_of x) id ≡ true) (λ x. is_before (T.id_of x) id ≡ false) items.now result }
+/// The first place whose id doesn't come before this one, or how many there are where there is none, by halving.
+fn first_from<T: Identified>(places: &[Place<T>], id: Id) -> usize
+    requires { IsRising (id_at T.id_of) places.now }
+    ensures bound { result ≤ length places.now }
+    ensures place { IsPartitionPoint (λ p. is_before (id_at T.id_of p) id ≡ true) (λ p. is_before (id_at T.id_of p) id ≡ false) places.now result }
 {
-    items.partition_point(
-        |item: &T| -> bool
-            ensures { result ≡ is_before (T.id_of item.now) id }
-        { is_before(item.id(), id) },
+    places.partition_point(
+        |place: &Place<T>| -> bool
+            ensures { result ≡ is_before (id_at T.id_of place.now) id }
+        { is_before(place.id(), id) },
     )
 }
 
-/// The place of the item of this id, or the length where there is none, by halving.
-fn halve_to<T: Identified>(items: &[T], id: Id) -> usize
-    requires { IsRising T.id_of items.now }
-    ensures { result ≡ place_by T.id_of id items.now }
+/// The place of the item of this id, or how many places there are where there is none.
+fn place_in<T: Identified>(places: &[Place<T>], rising: bool, id: Id) -> usize
+    requires { rising ≡ true → IsRising (id_at T.id_of) places.now }
+    ensures { result ≡ place_by T.id_of id places.now }
 {
-    let place = first_from(items, id);
-    if place < items.len() && is_same(items[place].id(), id) {
+    if rising {
+        halve_to(places, id)
+    } else {
+        walk_to(places, id)
+    }
+}
+
+/// The same, by halving.
+fn halve_to<T: Identified>(places: &[Place<T>], id: Id) -> usize
+    requires { IsRising (id_at T.id_of) places.now }
+    ensures { result ≡ place_by T.id_of id places.now }
+{
+    let place = first_from(places, id);
+    if place < places.len() && places[place].holds(id) {
         place
     } else {
-        items.len()
+        places.len()
     }
 }
 
-/// The place of the item of this id, or the length where there is none, by a walk.
-fn walk_to<T: Identified>(items: &[T], id: Id) -> usize
-    ensures { result ≡ place_by T.id_of id items.now }
+/// The same, by a walk.
+fn walk_to<T: Identified>(places: &[Place<T>], id: Id) -> usize
+    ensures { result ≡ place_by T.id_of id places.now }
 {
-    let mut place = 0;
-    for item in items {
-        if is_same(item.id(), id) {
-            return place;
+    let mut count = 0;
+    for place in places {
+        if place.holds(id) {
+            return count;
         }
-        place += 1;
+        count += 1;
     }
-    place
+    count
 }
 
-/// The id of the first of these items behind this one, or of the first at all, that is due.
-fn first_due<T: Identified>(items: &[T], after: &Option<Id>, moment: &Moment) -> Option<Id>
-    ensures { result ≡ next_due T.id_of (T.is_due_at moment.entry.now) after.now items.now }
+/// The id of the first item at these places behind this one, or of the first at all, that is due.
+fn first_due<T: Identified>(places: &[Place<T>], after: &Option<Id>, moment: &Moment) -> Option<Id>
+    ensures { result
+        ≡ next_due T.id_of (T.is_due_at moment.entry.now) after.now (left places.now) }
 {
-    for item in items {
-        let id = item.id();
-        if is_behind(after, id) && item.is_due(moment) {
+    for place in places {
+        let id = place.id();
+        if is_behind(after, id) && place.is_due(moment) {
             return Some(id);
         }
     }

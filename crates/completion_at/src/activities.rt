@@ -31,6 +31,7 @@ use at_base::text::Text;
 use at_posts::answers::accepted;
 use by_id::fates::{Choice, Turn};
 use by_id::list::{Alteration, ById, is_same};
+use by_id::place::Items;
 use by_id::plan::{Branch, Plan};
 use std::alloc::{AllocError, Global};
 use std::marker::Model;
@@ -101,10 +102,10 @@ impl Activities {
     }
 
     /// The activities, in the order of making.
-    pub fn as_slice(&self) -> &[Activity]
-        ensures { result.now ≡ self.now }
+    pub fn iter(&self) -> Items<'_, Activity>
+        ensures { result ≡ self.now }
     {
-        self.live.as_slice()
+        self.live.iter()
     }
 
     /// How many activities live.

@@ -3,6 +3,7 @@
 ghost use Rattle.std.specs.Prelude.{◌≡◌, ◌-◌, ◌^◌, min};
 ghost use Rattle.coordinator_at.specs.Holdings.{completions_held, links_held, transaction_held, transactions_held};
 
+use by_id::place::Items;
 use transaction_at::transaction::{Completion, Superior, Transaction};
 
 fn completions_held(completion: &Option<Completion>) -> u64
@@ -34,8 +35,8 @@ fn transaction_held(transaction: &Transaction) -> u64
 }
 
 /// What these transactions hold.
-pub fn all_held(transactions: &[Transaction]) -> u64
-    ensures { result ≡ min (transactions_held transactions.now) (2 ^ 64 - 1) }
+pub fn all_held(transactions: Items<'_, Transaction>) -> u64
+    ensures { result ≡ min (transactions_held transactions.entry) (2 ^ 64 - 1) }
 {
     let mut held = 0u64;
     for transaction in transactions {

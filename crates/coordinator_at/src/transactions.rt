@@ -29,6 +29,7 @@ use at_base::target::Seat;
 use at_posts::answers::accepted;
 use by_id::fates::Choice;
 use by_id::list::ById;
+use by_id::place::Items;
 use by_id::plan::{Branch, Plan};
 use std::alloc::{AllocError, Global};
 use std::marker::Model;
@@ -121,8 +122,8 @@ fn push_lost_subordinate(effects: &mut Effects, transaction: &Transaction) -> Re
 }
 
 /// The ends of the roots that going down loses.
-fn push_lost_roots(effects: &mut Effects, live: &[Transaction]) -> Result<(), AllocError>
-    ensures { OnOk result (effects.new ≡ effects.old ++ roots_lost live.now) }
+fn push_lost_roots(effects: &mut Effects, live: Items<'_, Transaction>) -> Result<(), AllocError>
+    ensures { OnOk result (effects.new ≡ effects.old ++ roots_lost live.entry) }
 {
     for transaction in live {
         push_lost_root(effects, transaction)?;
@@ -131,8 +132,11 @@ fn push_lost_roots(effects: &mut Effects, live: &[Transaction]) -> Result<(), Al
 }
 
 /// The ends of the subordinates that going down loses.
-fn push_lost_subordinates(effects: &mut Effects, live: &[Transaction]) -> Result<(), AllocError>
-    ensures { OnOk result (effects.new ≡ effects.old ++ subordinates_lost live.now) }
+fn push_lost_subordinates(
+    effects: &mut Effects,
+    live: Items<'_, Transaction>,
+) -> Result<(), AllocError>
+    ensures { OnOk result (effects.new ≡ effects.old ++ subordinates_lost live.entry) }
 {
     for transaction in live {
         push_lost_subordinate(effects, transaction)?;
@@ -150,13 +154,6 @@ impl Transactions {
         })
     }
 
-    /// The transactions, in the order of making.
-    pub fn as_slice(&self) -> &[Transaction]
-        ensures { result.now ≡ self.now }
-    {
-        self.live.as_slice()
-    }
-
     /// How many transactions live.
     pub fn len(&self) -> usize
         ensures { result ≡ length self.now }
@@ -169,7 +166,7 @@ impl Transactions {
     pub fn held(&self) -> u64
         ensures { result ≡ min (transactions_held self.now) (2 ^ 64 - 1) }
     {
-        all_held(self.live.as_slice())
+        all_held(self.live.iter())
     }
 
     /// The transaction of this id.
@@ -324,8 +321,8 @@ impl Transactions {
         ensures { IfOk result (λ effects. effects ≡ transactions_lost self.now) }
     {
         let mut effects = Effects::from_vec(Vec::new(alloc));
-        push_lost_roots(&mut effects, self.live.as_slice())?;
-        push_lost_subordinates(&mut effects, self.live.as_slice())?;
+        push_lost_roots(&mut effects, self.live.iter())?;
+        push_lost_subordinates(&mut effects, self.live.iter())?;
         Ok(effects)
     }
 }

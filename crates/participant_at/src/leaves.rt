@@ -72,13 +72,6 @@ impl Leaves {
         })
     }
 
-    /// The leaves, in the order of making.
-    pub fn as_slice(&self) -> &[Leaf]
-        ensures { result.now ≡ self.now }
-    {
-        self.live.as_slice()
-    }
-
     /// How many leaves live.
     pub fn len(&self) -> usize
         ensures { result ≡ length self.now }
@@ -180,7 +173,7 @@ impl Leaves {
         ensures { IfOk result (λ effects. effects ≡ leaves_lost self.now) }
     {
         let mut effects = Effects::from_vec(Vec::new(alloc));
-        for leaf in self.live.as_slice() {
+        for leaf in self.live.iter() {
             push_lost(&mut effects, leaf)?;
         }
         Ok(effects)

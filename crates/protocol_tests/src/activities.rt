@@ -213,7 +213,7 @@ fn event_of(alloc: Global, name: &str) -> Result<Event, AllocError> {
 /// Whether activities have come so far, as `Active+Creating`; `gone` where there is none.
 fn have_come(activities: &Activities, words: &str) -> bool {
     let mut place = 0usize;
-    for activity in activities.as_slice() {
+    for activity in activities.iter() {
         if name_of(activity.progress) != part(words, '+', place) {
             return false;
         }

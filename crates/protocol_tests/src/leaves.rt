@@ -163,7 +163,7 @@ fn record_name(entry: Option<&Record>) -> &'static str {
 }
 
 fn state_name(leaves: &Leaves) -> &'static str {
-    match leaves.as_slice().first() {
+    match leaves.find(Id::new(1, 1)) {
         Some(leaf) => leaf.state.name(),
         None => "gone",
     }

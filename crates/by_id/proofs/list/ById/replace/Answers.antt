@@ -1,19 +1,20 @@
-use Rattle.std.proofs.Common.{rules, ◌∙◌, ◌≡◌, sym, ap, true}
-use Rattle.by_id.specs.Lists.{place_by}
-use Rattle.at_model.specs.Book.{is_id}
-use Rattle.by_id.proofs.Rising.{rising_replaced}
+use Rattle.std.proofs.Common.{rules, ap, ◌∙◌}
+use Rattle.by_id.specs.Places.{place_by}
+use Rattle.by_id.proofs.Kept.{kept_replaced}
 use Rattle.by_id.proofs.list.ById.replace.Goals as goal
-use Rattle.by_id.proofs.list.ById.replace.Goals.{then-self, else-self}
 
 pub invariant_of-self : goal.invariant_of-self
-invariant_of-self g c = (
-  c.self.invariant.0,
-  λ rises. elim c.if-self.branch [
-    | then-self w ↦
-        let key = g.T.Identified.id_of in
-        let xs = c.self.inside.items.items in
-        let same : is_id (key c.args.item) c.args.id ≡ true = search rules in
-        rw (c.place-place.ensures ∙ ap (place_by key c.args.id) (sym c.self.view_is)) (rising_replaced key c.args.id c.args.item xs same (c.self.invariant.1 w.if-self.true))
-    | else-self w ↦ absurd (search rules)
-  ],
-)
+invariant_of-self g c =
+    let key = g.T.Identified.id_of in (
+      rw (c.place_in-place.ensures ∙ ap (place_by key c.args.id) c.as_slice.ensures.value)
+          (kept_replaced key c.self.inside.rising c.self.inside.live c.self.inside.places.items c.if-self.self c.args.id c.args.item (λ e. search rules) c.self.invariant.0),
+      search rules,
+    )
+
+pub invariant_of-self-after-self-2 : goal.invariant_of-self-after-self-2
+invariant_of-self-after-self-2 g c =
+    let key = g.T.Identified.id_of in (
+      rw (c.place_in-place.ensures ∙ ap (place_by key c.args.id) c.as_slice.ensures.value)
+          (kept_replaced key c.self.inside.rising c.self.inside.live c.self.inside.places.items c.if-self.self c.args.id c.args.item (λ e. search rules) c.self.invariant.0),
+      search rules,
+    )
