@@ -2,5 +2,6 @@
 #![tactic(auto)]
 
 pub mod answers;
+pub mod kept;
 pub mod list;
 pub mod posts;

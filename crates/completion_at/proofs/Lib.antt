@@ -1,5 +1,4 @@
 mod ActivityPlans
-mod EqualAnswers
 mod RequestPlans
 mod Slashes
 mod WorkPosts

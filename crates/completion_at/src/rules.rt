@@ -22,6 +22,7 @@ use at_base::notice::Notice;
 use at_base::outs::{Effect, Told};
 use at_base::text::Text;
 use at_posts::answers::relates_to;
+use at_posts::kept::{kept, kept_context};
 use at_posts::list::PostList;
 use at_tables::cells::{Act, State, initiator_cell};
 use by_id::fates::{Choice, Fate, Turn};
@@ -162,12 +163,17 @@ fn answers_register(
 }
 
 /// A copy of the activity with its context.
-fn given(activity: &Activity, context: &Context, progress: Progress) -> Result<Activity, AllocError>
+fn given(
+    alloc: Global,
+    activity: &Activity,
+    context: &Context,
+    progress: Progress,
+) -> Result<Activity, AllocError>
     ensures { IfOk result
         (λ next. next
         ≡ record activity.now { progress = progress_of progress; context = Some context.now }) }
 {
-    let context = context.clone()?;
+    let context = kept_context(alloc, context)?;
     let mut next = activity.clone()?;
     next.progress = progress;
     next.context = Some(context);
@@ -176,6 +182,7 @@ fn given(activity: &Activity, context: &Context, progress: Progress) -> Result<A
 
 /// A copy of the activity that registers now.
 fn registering(
+    alloc: Global,
     moment: &Moment,
     activity: &Activity,
     context: &Context,
@@ -188,7 +195,7 @@ fn registering(
           sent = Some moment.entry.now.now;
         }) }
 {
-    let mut next = given(activity, context, Progress::Registering)?;
+    let mut next = given(alloc, activity, context, Progress::Registering)?;
     next.sent = Some(moment.now);
     Ok(next)
 }
@@ -212,7 +219,7 @@ fn registers(
 {
     let register = completion_register(alloc, moment, activity, &context.registration)?;
     let posts = PostList::alone(alloc, register)?;
-    let next = registering(moment, activity, context)?;
+    let next = registering(alloc, moment, activity, context)?;
     Ok(Turn::silent(alloc, Fate::Put(next), posts))
 }
 
@@ -230,7 +237,7 @@ fn with_context(
     if is_begun(activity) {
         return Ok(Choice::Goes(registers(alloc, moment, activity, context)?));
     }
-    let next = given(activity, context, Progress::Active)?;
+    let next = given(alloc, activity, context, Progress::Active)?;
     Ok(anew(alloc, next))
 }
 
@@ -262,12 +269,16 @@ fn created(
 }
 
 /// A copy of the activity that is registered at this endpoint.
-fn registered_at(activity: &Activity, coordinator: &Epr) -> Result<Activity, AllocError>
+fn registered_at(
+    alloc: Global,
+    activity: &Activity,
+    coordinator: &Epr,
+) -> Result<Activity, AllocError>
     ensures { IfOk result
         (λ next. next
         ≡ record activity.now { progress = Stage.Active; coordinator = Some coordinator.now }) }
 {
-    let coordinator = coordinator.clone()?;
+    let coordinator = kept(alloc, coordinator)?;
     let mut next = activity.clone()?;
     next.progress = Progress::Active;
     next.coordinator = Some(coordinator);
@@ -291,7 +302,7 @@ fn registers_at(
         else ignored activity.now) }
 {
     if answers_register(alloc, moment, relates, activity)? {
-        let next = registered_at(activity, coordinator)?;
+        let next = registered_at(alloc, activity, coordinator)?;
         Ok(anew(alloc, next))
     } else {
         Ok(Choice::ignored(alloc))

@@ -22,6 +22,7 @@ use Rattle.at_model.specs.Moves.{Decision}
 use Rattle.at_model.specs.Posts.{accepted}
 use Rattle.at_model.specs.Register.{on_register, protocol_named, register_unknown}
 use Rattle.at_model.specs.Step.{Plan, activation_plan, at_time, completion_plan, completion_seat_plan, coordinator_plan, created_plan, find_seat, link_plan, moment_of, plain, plan_of, put_transaction, registration_outcome, registration_plan, seat_plan, seatless_plan, still, stranger_plan, transaction_at, transaction_due_plan, transaction_plan}
+use Rattle.at_posts.proofs.Counters.{counts}
 use Rattle.at_tables.specs.Tables.{coordinator_of, participant_of}
 use Rattle.at_tables.specs.declared.cells.State.TheVariants as states
 use Rattle.by_id.specs.Lists.{move_by}
@@ -36,9 +37,6 @@ use Rattle.transaction_at.specs.declared.moves.Move.TheVariants as moves_of
 use Rattle.transaction_at.specs.Moves.{meant, moved, sent_or}
 use Rattle.transaction_at.specs.declared.moves.Move.{Move}
 use Rattle.coordinator_at.specs.TransactionPlans.{Holds, created, whole, with_transactions}
-
-none_some : {A : Type 0} {x : A} → None ≡ Some x → ⊥
-none_some e = absurd cc
 
 here : (b : Book) (now : ℕ) (ts : List Transaction) (m : Moment) (id : Numbers) (t : Option Transaction) → Holds b now ts m → find_by transaction_id id ts ≡ t → transaction_at b id ≡ t
 here b now ts m id t holds found = ap (find_by transaction_id id) holds.0 ∙ found
@@ -65,14 +63,6 @@ moves b now answer m id own t d c (Ok plan) same found named chose planned =
     ap (whole b now) (planned ∙ ap (λ k. chosen answer k c) named) ∙ decides b now answer id t c found
     ∙ ap (plan_of b (put_transaction t.id (at_time now b)) answer) (chose ∙ ap (λ k. with_answer k t d) same)
 moves b now answer m id own t d c (Err e) same found named chose planned = planned
-
--- where there is an id for a new item, the counter isn't spent
-counts : (b : Book) (id : Numbers) → next_id b ≡ Some id → nat_lt b.counter last_counter ≡ true
-counts b id e = by (nat_lt b.counter last_counter) refl
-  where
-    by : (few : Bool) → nat_lt b.counter last_counter ≡ few → nat_lt b.counter last_counter ≡ true
-    by true f = f
-    by false f = absurd (none_some (sym (rw f refl) ∙ e))
 
 -- what became of a CreateCoordinationContext
 abbrev Creates : Book → ℕ → Creation → Type 0

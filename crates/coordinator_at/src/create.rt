@@ -17,12 +17,13 @@ use at_base::event::{Arrived, Moment};
 use at_base::fault::Fault;
 use at_base::id::Id;
 use at_base::limits::MOST_ITEMS;
-use at_base::message::{Context, Create, Message, cloned_option};
+use at_base::message::{Context, Create, Message};
 use at_base::notice::Kind;
 use at_base::outs::OutList;
 use at_base::target::Target;
 use at_base::text::Text;
 use at_posts::answers::{accepted, faulted, replied};
+use at_posts::kept::{kept, kept_option, kept_reply, kept_text};
 use at_posts::posts::push_register;
 use at_tables::cells::State;
 use by_id::plan::Plan;
@@ -33,11 +34,11 @@ use transaction_at::answer::context_of;
 use transaction_at::moves::Move;
 use transaction_at::transaction::{Link, Phase, Request, Seats, Superior, Transaction};
 
-/// The Identifier of a root.
+/// The Identifier of a root, which copies share.
 pub fn identifier_of(alloc: Global, base: &Text, id: Id) -> Result<Text, AllocError>
     ensures { IfOk result (λ identifier. identifier ≡ identifier_of base.now id) }
 {
-    Ok(Text::from_string(format!(in alloc; "{}/t/{}", base, id)?))
+    Text::from_string(format!(in alloc; "{}/t/{}", base, id)?).into_shared(alloc)
 }
 
 /// A transaction of the node's own.
@@ -136,6 +137,7 @@ fn new_link() -> Link
 
 /// The CreateCoordinationContext that a subordinate is to answer.
 fn request_of(
+    alloc: Global,
     arrived: &Arrived,
     reply: &Epr,
     create: &Create,
@@ -151,10 +153,10 @@ fn request_of(
           registration = current.now.registration;
         }) }
 {
-    let id = cloned_option(&arrived.id)?;
-    let reply = reply.clone()?;
-    let fault = arrived.fault.clone()?;
-    let registration = current.registration.clone()?;
+    let id = kept_option(alloc, &arrived.id)?;
+    let reply = kept(alloc, reply)?;
+    let fault = kept_reply(alloc, &arrived.fault)?;
+    let registration = kept(alloc, &current.registration)?;
     Ok(Request {
         id,
         reply,
@@ -178,8 +180,8 @@ fn new_subordinate(
         (λ transaction. transaction
         ≡ new_subordinate moment.entry.now id arrived.now reply.now create.now current.now) }
 {
-    let identifier = current.identifier.clone()?;
-    let request = request_of(arrived, reply, create, current)?;
+    let identifier = kept_text(alloc, &current.identifier)?;
+    let request = request_of(alloc, arrived, reply, create, current)?;
     Ok(Transaction {
         id,
         identifier,

@@ -12,6 +12,7 @@ use at_base::id::Id;
 use at_base::notice::Kind;
 use at_base::record::{Record, Seated};
 use at_base::text::Text;
+use at_posts::kept::kept;
 use at_tables::cells::State;
 use by_id::list::is_same;
 use std::alloc::{AllocError, Global};
@@ -23,7 +24,7 @@ fn recovered_seats(alloc: Global, state: State, seats: &[Seated]) -> Result<Seat
 {
     let mut recovered = Seats::new(alloc);
     for seated in seats {
-        let participant = seated.endpoint.clone()?;
+        let participant = kept(alloc, &seated.endpoint)?;
         let seat = Enlistment {
             number: seated.number,
             kind: Kind::Durable,
@@ -36,10 +37,10 @@ fn recovered_seats(alloc: Global, state: State, seats: &[Seated]) -> Result<Seat
 }
 
 /// The links of a subordinate that voted: only the durable one is left.
-fn recovered_superior(state: State, superior: &Epr) -> Result<Superior, AllocError>
+fn recovered_superior(alloc: Global, state: State, superior: &Epr) -> Result<Superior, AllocError>
     ensures { IfOk result (λ links. links ≡ recovered_superior state superior.now) }
 {
-    let coordinator = superior.clone()?;
+    let coordinator = kept(alloc, superior)?;
     Ok(Superior {
         volatile: Link {
             state: State::None,
@@ -91,7 +92,7 @@ fn recovered_subordinate(
     } else {
         (Phase::Voted, State::PreparedSuccess, State::Prepared)
     };
-    let superior = recovered_superior(link, superior)?;
+    let superior = recovered_superior(alloc, link, superior)?;
     let seats = recovered_seats(alloc, seat, seats)?;
     let identifier = Text::from_string(String::new(alloc));
     Ok(recovered_transaction(id, identifier, Some(superior), phase, seats))

@@ -22,6 +22,7 @@ use at_base::outs::{Effects, OutList, Outs};
 use at_base::target::Target;
 use at_base::text::Text;
 use at_posts::answers::{faulted, replied};
+use at_posts::kept::kept;
 use at_posts::posts::push_notice;
 use at_tables::cells::State;
 use by_id::list::Alteration;
@@ -225,6 +226,7 @@ fn first_state(phase: Phase, kind: Kind) -> State
 
 /// The seat of a new participant.
 fn new_seat(
+    alloc: Global,
     transaction: &Transaction,
     participant: &Epr,
     kind: Kind,
@@ -232,7 +234,7 @@ fn new_seat(
     requires { length transaction.now.seats < MOST_SEATS }
     ensures { IfOk result (λ seat. seat ≡ new_seat transaction.now participant.now kind) }
 {
-    let participant = participant.clone()?;
+    let participant = kept(alloc, participant)?;
     Ok(Enlistment {
         number: transaction.seats.as_slice().len() as u16 + 1,
         kind,
@@ -340,7 +342,7 @@ fn accept_initiator(
 {
     let coordinator = completion_endpoint(alloc, &moment.base, transaction.id)?;
     let outs = registered_reply(alloc, arrived, coordinator)?;
-    let initiator = initiator.clone()?;
+    let initiator = kept(alloc, initiator)?;
     let completion = Completion {
         initiator,
         state: State::Active,
@@ -368,7 +370,7 @@ fn accept(
 {
     match protocol {
         Some(kind) => {
-            let seat = new_seat(transaction, participant, kind)?;
+            let seat = new_seat(alloc, transaction, participant, kind)?;
             accept_seat(alloc, moment, arrived, transaction, seat)
         }
         None => accept_initiator(alloc, moment, arrived, transaction, participant),

@@ -16,6 +16,7 @@ use Rattle.at_model.specs.Leaves.{Employment, on_leaf, on_work, work_for}
 use Rattle.at_model.specs.Due.{leaf_due, leaf_reached}
 use Rattle.at_model.specs.Posts.{accepted}
 use Rattle.at_model.specs.Step.{Plan, at_time, employed_plan, leaf_at, leaf_due_plan, leaf_or_stranger_plan, leaf_plan, moment_of, plain, put_leaf, still, stranger_plan, work_plan}
+use Rattle.at_posts.proofs.Counters.{counts}
 use Rattle.at_tables.specs.Tables.{participant_of}
 use Rattle.at_tables.specs.declared.cells.State.TheVariants as states
 use Rattle.by_id.specs.Unmoved.{meant, unmoved}
@@ -25,9 +26,6 @@ use Rattle.by_id.specs.declared.plan.Plan.{Plan as Planned}
 use Rattle.by_id.proofs.Found.{chosen_so, found_id, moved_found, put_found}
 use Rattle.participant_at.specs.LeafPlans.{Holds, employed, whole, with_leaves}
 
-none_some : {A : Type 0} {x : A} → None ≡ Some x → ⊥
-none_some e = absurd cc
-
 -- what is chosen for the leaf that was found
 decides : (b : Book) (now : ℕ) (answer : List Out) (id : Numbers) (l : Leaf) (c : Choice Leaf (Unit {0})) → leaf_at b id ≡ Some l → whole b now (chosen answer l.id c) ≡ leaf_plan b now answer l (meant (Some l) c)
 decides b now answer id l c e =
@@ -35,14 +33,6 @@ decides b now answer id l c e =
       ap (λ ls. record (at_time now b) { leaves = ls }) (subst (λ k. put_by leaf_id k (Some l) b.leaves ≡ b.leaves) (sym (found_id leaf_id id l b.leaves e)) (put_found leaf_id id l b.leaves e)),
       λ by. ap (λ ls. record (at_time now b) { leaves = ls }) (moved_found leaf_id unmoved l.id by l b.leaves (subst (λ k. find_by leaf_id k b.leaves ≡ Some l) (sym (found_id leaf_id id l b.leaves e)) e)),
     )
-
--- where there is an id for a new item, the counter isn't spent
-counts : (b : Book) (id : Numbers) → next_id b ≡ Some id → nat_lt b.counter last_counter ≡ true
-counts b id e = by (nat_lt b.counter last_counter) refl
-  where
-    by : (few : Bool) → nat_lt b.counter last_counter ≡ few → nat_lt b.counter last_counter ≡ true
-    by true f = f
-    by false f = absurd (none_some (sym (rw f refl) ∙ e))
 
 -- what became of a Work
 abbrev Employs : Book → ℕ → Employment → Type 0

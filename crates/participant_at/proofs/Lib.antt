@@ -1,3 +1,2 @@
-mod EqualAnswers
 mod Employments
 mod LeafPlans

@@ -10,16 +10,23 @@ use at_base::id::Id;
 use at_base::notice::{Kind, Vote};
 use at_base::record::Record;
 use at_base::text::Text;
+use at_posts::kept::{kept, kept_text};
 use at_tables::cells::State;
 use std::alloc::{AllocError, Global};
 
 /// A durable leaf that is prepared.
-fn recovered_leaf(id: Id, coordinator: &Epr, key: &Text, value: &Text) -> Result<Leaf, AllocError>
+fn recovered_leaf(
+    alloc: Global,
+    id: Id,
+    coordinator: &Epr,
+    key: &Text,
+    value: &Text,
+) -> Result<Leaf, AllocError>
     ensures { IfOk result (λ leaf. leaf ≡ recovered_leaf id coordinator.now key.now value.now) }
 {
-    let coordinator = coordinator.clone()?;
-    let key = key.clone()?;
-    let value = value.clone()?;
+    let coordinator = kept(alloc, coordinator)?;
+    let key = kept_text(alloc, key)?;
+    let value = kept_text(alloc, value)?;
     Ok(Leaf {
         id,
         kind: Kind::Durable,
@@ -35,7 +42,7 @@ fn recovered_leaf(id: Id, coordinator: &Epr, key: &Text, value: &Text) -> Result
 }
 
 /// The leaf of a live record.
-fn push_recovered(leaves: &mut Vec<Leaf>, entry: &Record) -> Result<(), AllocError>
+fn push_recovered(alloc: Global, leaves: &mut Vec<Leaf>, entry: &Record) -> Result<(), AllocError>
     ensures { OnOk result (leaves.new.items ≡ leaves.old.items ++ leaves_of (entry.now ∷ [])) }
 {
     if let Record::LeafPrepared {
@@ -45,7 +52,7 @@ fn push_recovered(leaves: &mut Vec<Leaf>, entry: &Record) -> Result<(), AllocErr
         value,
     } = entry
     {
-        let leaf = recovered_leaf(*id, coordinator, key, value)?;
+        let leaf = recovered_leaf(alloc, *id, coordinator, key, value)?;
         leaves.push(leaf)?;
     }
     Ok(())
@@ -58,7 +65,7 @@ impl Leaves {
     {
         let mut leaves = Vec::new(alloc);
         for entry in live {
-            push_recovered(&mut leaves, entry)?;
+            push_recovered(alloc, &mut leaves, entry)?;
         }
         Leaves::from_vec(leaves)
     }

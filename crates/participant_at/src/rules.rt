@@ -24,6 +24,7 @@ use at_base::outs::{Effect, Ending};
 use at_base::record::Record;
 use at_base::text::Text;
 use at_posts::answers::relates_to;
+use at_posts::kept::kept;
 use at_posts::list::PostList;
 use at_tables::cells::{Act, State, participant_cell};
 use by_id::fates::{Choice, Fate, Turn};
@@ -360,7 +361,7 @@ fn registers(alloc: Global, coordinator: &Epr, leaf: &Leaf) -> Result<Turn<Leaf,
         (begin (record leaf.now { state = states.Active; coordinator = Some coordinator.now; request = None })))) }
 {
     let posts = answers_work(alloc, leaf, Answer::Done)?;
-    let coordinator = coordinator.clone()?;
+    let coordinator = kept(alloc, coordinator)?;
     let mut next = leaf.clone()?;
     next.state = State::Active;
     next.coordinator = Some(coordinator);

@@ -12,23 +12,29 @@ use at_base::epr::{Epr, Reply};
 use at_base::event::{Arrived, Moment};
 use at_base::id::Id;
 use at_base::limits::MOST_ITEMS;
-use at_base::message::{Work, cloned_option};
+use at_base::message::Work;
 use at_base::outs::{Out, OutList};
 use at_posts::answers::accepted;
+use at_posts::kept::{kept, kept_option, kept_text};
 use at_tables::cells::State;
 use by_id::plan::Plan;
 use by_id::times::deadline_of;
 use std::alloc::{AllocError, Global};
 
 /// The Work that a new leaf is to answer.
-fn request_of(arrived: &Arrived, reply: &Epr, registration: &Epr) -> Result<WorkRequest, AllocError>
+fn request_of(
+    alloc: Global,
+    arrived: &Arrived,
+    reply: &Epr,
+    registration: &Epr,
+) -> Result<WorkRequest, AllocError>
     ensures { IfOk result
         (λ request. request
         ≡ record { id = arrived.now.id; reply = reply.now; registration = registration.now }) }
 {
-    let id = cloned_option(&arrived.id)?;
-    let reply = reply.clone()?;
-    let registration = registration.clone()?;
+    let id = kept_option(alloc, &arrived.id)?;
+    let reply = kept(alloc, reply)?;
+    let registration = kept(alloc, registration)?;
     Ok(WorkRequest {
         id,
         reply,
@@ -38,6 +44,7 @@ fn request_of(arrived: &Arrived, reply: &Epr, registration: &Epr) -> Result<Work
 
 /// A new leaf.
 fn new_leaf(
+    alloc: Global,
     moment: &Moment,
     id: Id,
     arrived: &Arrived,
@@ -46,9 +53,9 @@ fn new_leaf(
 ) -> Result<Leaf, AllocError>
     ensures { IfOk result (λ leaf. leaf ≡ new_leaf moment.entry.now id arrived.now reply.now work.now) }
 {
-    let key = work.key.clone()?;
-    let value = work.value.clone()?;
-    let request = request_of(arrived, reply, &work.context.registration)?;
+    let key = kept_text(alloc, &work.key)?;
+    let value = kept_text(alloc, &work.value)?;
+    let request = request_of(alloc, arrived, reply, &work.context.registration)?;
     Ok(Leaf {
         id,
         kind: work.kind,
@@ -103,7 +110,7 @@ fn employ(
         (employ moment.entry.now arrived.now (new_leaf moment.entry.now id arrived.now reply.now work.now)
         work.now.context.registration)) }
 {
-    let leaf = new_leaf(moment, id, arrived, reply, work)?;
+    let leaf = new_leaf(alloc, moment, id, arrived, reply, work)?;
     let outs = first_outs(alloc, moment, &leaf, &work.context.registration)?;
     Ok(Plan::making(alloc, leaf, outs))
 }

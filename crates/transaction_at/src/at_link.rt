@@ -36,6 +36,7 @@ use at_base::record::Record;
 use at_base::target::Target;
 use at_base::text::Text;
 use at_posts::answers::relates_to;
+use at_posts::kept::kept;
 use at_posts::list::PostList;
 use at_posts::posts::{fault_post, stored_or, stranger_post};
 use at_tables::cells::{Act, State, participant_cell};
@@ -428,6 +429,7 @@ fn registered(superior: &Superior, phase: Phase) -> Phase
 
 /// A copy of the superior whose link of the kind is Active, with its seat at this endpoint.
 fn with_coordinator(
+    alloc: Global,
     kind: Kind,
     superior: &Superior,
     coordinator: &Epr,
@@ -436,7 +438,7 @@ fn with_coordinator(
         (λ next. next
         ≡ set_link kind (record { state = states.Active; coordinator = Some coordinator.now }) superior.now) }
 {
-    let coordinator = coordinator.clone()?;
+    let coordinator = kept(alloc, coordinator)?;
     let mut next = superior.clone()?;
     next.register_link(kind, coordinator);
     Ok(next)
@@ -475,7 +477,7 @@ fn link_registered(
     if !is_answer(alloc, moment, relates, kind, superior, transaction)? {
         return Ok(Choice::ignored(alloc));
     }
-    let superior = with_coordinator(kind, superior, coordinator)?;
+    let superior = with_coordinator(alloc, kind, superior, coordinator)?;
     let next = registered_under(superior, transaction)?;
     let posts = PostList::new(alloc);
     Ok(Choice::Goes(Turn::silent(alloc, Fate::Put(next), posts)))

@@ -191,12 +191,11 @@ fn standing_vote(
     alloc: Global,
     moment: &Moment,
     superior: &Superior,
-    moving: &Moving<Transaction>,
+    mut moving: Moving<Transaction>,
 ) -> Result<Turn<Transaction, Move>, AllocError>
     ensures { (found : Option Known) → IfOk result
-        (λ turn. turn_of found turn ≡ stays (voted moment.entry.now superior.now moving.now)) }
+        (λ turn. turn_of found turn ≡ stays (voted moment.entry.now superior.now moving)) }
 {
-    let mut moving = moving.branch()?;
     vote_upwards(alloc, moment, superior, &mut moving)?;
     Ok(moving.stays())
 }
@@ -249,17 +248,17 @@ fn records_vote(
     moment: &Moment,
     superior: &Superior,
     coordinator: &Epr,
-    moving: &Moving<Transaction>,
+    moving: Moving<Transaction>,
 ) -> Result<Choice<Transaction, Move>, AllocError>
     ensures { (found : Option Known) → IfOk result
         (λ choice. meant found choice
-        ≡ Records (records.Voted moving.now.item.id coordinator.now (prepared moving.now.item.seats))
-        (stays (voted moment.entry.now superior.now moving.now))
-        (Some (abort moment.entry.now Alone moving.now))) }
+        ≡ Records (records.Voted moving.item.id coordinator.now (prepared moving.item.seats))
+        (stays (voted moment.entry.now superior.now moving))
+        (Some (abort moment.entry.now Alone moving))) }
 {
+    let entry = vote_record(alloc, coordinator, &moving)?;
+    let absent = absent_abort(alloc, moment, &moving)?;
     let stands = standing_vote(alloc, moment, superior, moving)?;
-    let absent = absent_abort(alloc, moment, moving)?;
-    let entry = vote_record(alloc, coordinator, moving)?;
     Ok(Choice::Records {
         entry,
         stands,
@@ -281,7 +280,7 @@ fn votes(
         ≡ sub_answered moment.entry.now superior.now (Some coordinator.now) moving) }
 {
     if has_prepared(moving.item.seats.as_slice()) {
-        let choice = records_vote(alloc, moment, superior, coordinator, &moving)?;
+        let choice = records_vote(alloc, moment, superior, coordinator, moving)?;
         Ok(choice)
     } else {
         votes_read_only(alloc, moment, superior, moving)

@@ -1,5 +1,5 @@
 use Rattle.at_model.specs.Posts.{register_post}
-use Rattle.completion_at.proofs.EqualAnswers.{given}
+use Rattle.at_posts.proofs.EqualAnswers.{given}
 use Rattle.completion_at.proofs.posts.completion_register.Goals as goal
 
 pub returns : goal.returns

@@ -3,7 +3,7 @@ use Rattle.at_base.specs.declared.message.Message.TheVariants as messages
 use Rattle.at_model.specs.Activities.{activity_target}
 use Rattle.endpoints.specs.Addresses.{create_id}
 use Rattle.at_model.specs.Posts.{request_post}
-use Rattle.completion_at.proofs.EqualAnswers.{given}
+use Rattle.at_posts.proofs.EqualAnswers.{given}
 use Rattle.completion_at.proofs.requests.create_post.Goals as goal
 
 pub returns : goal.returns

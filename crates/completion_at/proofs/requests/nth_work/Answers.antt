@@ -4,7 +4,7 @@ use Rattle.at_model.specs.Activities.{activity_target}
 use Rattle.endpoints.specs.Addresses.{work_id}
 use Rattle.at_model.specs.Posts.{request_post}
 use Rattle.completion_at.specs.ActivityPlans.{nth_work}
-use Rattle.completion_at.proofs.EqualAnswers.{given}
+use Rattle.at_posts.proofs.EqualAnswers.{given}
 use Rattle.completion_at.proofs.requests.nth_work.Goals as goal
 
 pub returns : goal.returns

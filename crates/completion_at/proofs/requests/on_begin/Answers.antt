@@ -2,7 +2,7 @@ use Rattle.std.proofs.Common.{◌≡◌, ◌∙◌, None, ap}
 use Rattle.at_model.specs.Activities.{asked_expires, new_activity, beginning, on_begin}
 use Rattle.at_model.specs.Create.{deadline_of}
 use Rattle.completion_at.specs.ActivityPlans.{begun}
-use Rattle.completion_at.proofs.EqualAnswers.{given}
+use Rattle.at_posts.proofs.EqualAnswers.{given}
 use Rattle.completion_at.proofs.requests.on_begin.Goals as goal
 
 pub returns : goal.returns

@@ -1,7 +1,7 @@
 use Rattle.std.proofs.Common.{◌≡◌, ◌∙◌, None}
 use Rattle.at_model.specs.Activities.{new_activity, beginning, on_interpose}
 use Rattle.completion_at.specs.ActivityPlans.{begun}
-use Rattle.completion_at.proofs.EqualAnswers.{given}
+use Rattle.at_posts.proofs.EqualAnswers.{given}
 use Rattle.completion_at.proofs.requests.on_interpose.Goals as goal
 
 pub returns : goal.returns
