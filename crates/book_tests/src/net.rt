@@ -136,7 +136,7 @@ fn entry_line(
 fn recorded(
     alloc: Global,
     node: usize,
-    at: &mut Node,
+    at: &Node,
     event: &Event,
     fails: bool,
 ) -> Result<String, AllocError> {

@@ -114,7 +114,7 @@ fn is_committing(phase: Phase) -> bool
 /// What a node knows: its transactions, leaves and activities, and how many ids it drew.
 #[derive(Drop)]
 pub struct Book {
-    /// The base, and room for what the lists are told beside an event.
+    /// The base, whose copies share its bytes, and room for the moment at which the lists are asked what is due.
     moment: Moment,
     incarnation: u32,
     counter: u32,
@@ -157,7 +157,7 @@ impl Book {
         requires { 1 ≤ incarnation }
         ensures { IfOk result (λ book. book ≡ recovered base.now live.now done.now incarnation) }
     {
-        let base = base.clone()?;
+        let base = base.clone()?.into_shared(alloc)?;
         let outcomes = Outcomes::newest_of(alloc, done)?;
         let transactions = Transactions::recover(alloc, &base, live)?;
         let leaves = Leaves::recover(alloc, live)?;
@@ -503,13 +503,15 @@ impl Book {
     /// What an event does to the book at this time, in milliseconds. It takes the memory that doing it needs, and changes
     /// nothing.
     #[tactic(auto, using(crate::proofs::ModelSteps::steps_so))]
-    pub fn plan(&mut self, alloc: Global, event: &Event, now: u64) -> Result<Plan, AllocError>
-        ensures plan { IfOk result (λ plan. IsStep plan self.old event.now now) }
-        ensures kept { self.new ≡ self.old }
+    pub fn plan(&self, alloc: Global, event: &Event, now: u64) -> Result<Plan, AllocError>
+        ensures { IfOk result (λ plan. IsStep plan self.now event.now now) }
     {
-        self.moment.now = now.max(self.seen);
-        self.moment.next = self.next_id();
-        let part = self.part(alloc, event, &self.moment)?;
+        let moment = Moment {
+            now: now.max(self.seen),
+            next: self.next_id(),
+            base: self.moment.base.clone()?,
+        };
+        let part = self.part(alloc, event, &moment)?;
         Ok(Plan { now, part })
     }
 

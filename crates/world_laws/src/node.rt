@@ -30,9 +30,8 @@ use std::mem::replace;
 
 /// Whether the step of an event has a record.
 #[tactic(auto, using(crate::proofs::ModelSteps::has_so))]
-fn has_record(alloc: Global, book: &mut Book, event: &Event, now: u64) -> Result<bool, AllocError>
-    ensures record { IfOk result (λ r. r ≡ has_record (plan book.old event.now now)) }
-    ensures same { book.new ≡ book.old }
+fn has_record(alloc: Global, book: &Book, event: &Event, now: u64) -> Result<bool, AllocError>
+    ensures { IfOk result (λ r. r ≡ has_record (plan book.now event.now now)) }
 {
     let plan = book.plan(alloc, event, now)?;
     Ok(plan.entry().is_some())
@@ -356,16 +355,15 @@ impl Node {
 
     /// Whether the step of an event has a record, where it is up.
     fn event_records(
-        &mut self,
+        &self,
         alloc: Global,
         event: &Event,
         now: u64,
     ) -> Result<Option<bool>, AllocError>
-        ensures record { IfOk result
-            (λ r. r ≡ option_map has_record (option_map (λ b. plan b event.now now) self.old.book)) }
-        ensures same { self.new ≡ self.old }
+        ensures { IfOk result
+            (λ r. r ≡ option_map has_record (option_map (λ b. plan b event.now now) self.now.book)) }
     {
-        match &mut self.book {
+        match &self.book {
             None => Ok(None),
             Some(book) => Ok(Some(has_record(alloc, book, event, now)?)),
         }
@@ -382,13 +380,12 @@ impl Node {
     }
 
     fn arrival_records(
-        &mut self,
+        &self,
         alloc: Global,
         arrived: Option<Arrived>,
     ) -> Result<Option<bool>, AllocError>
-        ensures record { IfOk result
-            (λ r. r ≡ option_map has_record (option_map (λ b. arrival_plan b self.old.clock arrived) self.old.book)) }
-        ensures same { self.new ≡ self.old }
+        ensures { IfOk result
+            (λ r. r ≡ option_map has_record (option_map (λ b. arrival_plan b self.now.clock arrived) self.now.book)) }
     {
         let now = self.clock;
         match arrived {
@@ -398,14 +395,13 @@ impl Node {
     }
 
     fn delivery_records(
-        &mut self,
+        &self,
         alloc: Global,
         number: u8,
         found: Option<&Posted>,
     ) -> Result<Option<bool>, AllocError>
-        ensures record { IfOk result
-            (λ r. r ≡ option_map has_record (delivery_plan number (option_copied found.entry) self.old self.old.book)) }
-        ensures same { self.new ≡ self.old }
+        ensures { IfOk result
+            (λ r. r ≡ option_map has_record (delivery_plan number (option_copied found.entry) self.now self.now.book)) }
     {
         match found {
             Some(posted) if posted.receiver == Some(number) => {
@@ -418,16 +414,15 @@ impl Node {
 
     /// Whether the first step of a turn has a record.
     fn turn_records(
-        &mut self,
+        &self,
         alloc: Global,
         number: u8,
         input: Input,
         posted: &[Posted],
     ) -> Result<Option<bool>, AllocError>
-        requires { IsReady self.old }
-        ensures record { IfOk result
-            (λ r. r ≡ option_map has_record (input_plan number (input_of input) posted.now self.old self.old.book)) }
-        ensures same { self.new ≡ self.old }
+        requires { IsReady self.now }
+        ensures { IfOk result
+            (λ r. r ≡ option_map has_record (input_plan number (input_of input) posted.now self.now self.now.book)) }
     {
         match input {
             Input::Deliver(wanted) => {
@@ -441,10 +436,9 @@ impl Node {
         }
     }
 
-    fn request_records(&mut self, alloc: Global, local: &Local) -> Result<Option<bool>, AllocError>
-        ensures record { IfOk result
-            (λ r. r ≡ option_map has_record (option_map (λ b. plan b (events.Local local.now) self.old.clock) self.old.book)) }
-        ensures same { self.new ≡ self.old }
+    fn request_records(&self, alloc: Global, local: &Local) -> Result<Option<bool>, AllocError>
+        ensures { IfOk result
+            (λ r. r ≡ option_map has_record (option_map (λ b. plan b (events.Local local.now) self.now.clock) self.now.book)) }
     {
         let now = self.clock;
         let event = Event::Local(local.clone()?);
@@ -453,14 +447,13 @@ impl Node {
 
     /// Whether the first step of an event has a record; none where it takes no step.
     pub fn records(
-        &mut self,
+        &self,
         alloc: Global,
         event: &WorldEvent,
         posted: &[Posted],
     ) -> Result<Option<bool>, AllocError>
-        requires { IsReady self.old }
-        ensures record { IfOk result (λ r. r ≡ node_records (event_of event.now) posted.now self.old) }
-        ensures same { self.new ≡ self.old }
+        requires { IsReady self.now }
+        ensures { IfOk result (λ r. r ≡ node_records (event_of event.now) posted.now self.now) }
     {
         match event {
             WorldEvent::Turn { node, input, .. } => {

@@ -7,7 +7,6 @@ ghost use Rattle.at_model.specs.Step.{plan, step};
 ghost use Rattle.at_model.specs.World.{answer_plan, arrival_plan};
 ghost use Rattle.interposition.specs.PlanResults.{recorded as entry_in};
 ghost use Rattle.interposition.specs.Due.{due_outcome};
-ghost use Rattle.interposition.specs.ModelSteps.{IsStep};
 ghost use Rattle.model_laws.specs.Order.{IsInOrder, IsRising};
 ghost use Rattle.world_laws.specs.Walks.{asked, begin, branch, counted, done_by, given, is_over, recorded, sending_at, sends, sent_each, sent_one, stepped, turned};
 
@@ -146,14 +145,6 @@ impl Walk {
         self.luck.is_over()
     }
 
-    /// What the book plans.
-    fn planned(&mut self, alloc: Global, event: &Event, now: u64) -> Result<Plan, AllocError>
-        ensures plan { IfOk result (λ plan. IsStep plan self.old.book event.now now) }
-        ensures same { self.new ≡ self.old }
-    {
-        self.book.plan(alloc, event, now)
-    }
-
     /// A step of what the book plans.
     #[tactic(auto, using(crate::proofs::ModelSteps::took_none))]
     fn go(&mut self, alloc: Global, event: &Event, now: u64) -> Result<(), AllocError>
@@ -162,7 +153,7 @@ impl Walk {
         if self.is_over() {
             return Ok(());
         }
-        let plan = self.planned(alloc, event, now)?;
+        let plan = self.book.plan(alloc, event, now)?;
         self.finish(alloc, plan)
     }
 
@@ -192,7 +183,7 @@ impl Walk {
     fn go_unrecorded(&mut self, alloc: Global, event: &Event, now: u64) -> Result<(), AllocError>
         ensures { OnOk result (self.new ≡ counted (step self.old.book event.now now true) self.old) }
     {
-        let plan = self.planned(alloc, event, now)?;
+        let plan = self.book.plan(alloc, event, now)?;
         let outs = self.book.apply(plan, true);
         self.count(alloc, outs)
     }
