@@ -1,10 +1,10 @@
 pub mod CrashMachines
 pub mod CrashRecords
 pub mod CrashesFollowed
+pub mod RecordFrames
 pub mod Rewritten
 pub mod RewrittenCalls
 pub mod RewrittenFiles
-pub mod RewrittenFrames
 pub mod RewrittenGates
 pub mod RewrittenRecords
 pub mod RewrittenSizes

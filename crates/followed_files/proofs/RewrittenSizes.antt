@@ -13,7 +13,7 @@ use Rattle.site_memory.specs.Sites.{told_of}
 use Rattle.site_memory.specs.declared.machine.MemSite.{MemSite}
 use Rattle.site_model.specs.Counts.{capped}
 use Rattle.followed_files.specs.Follows.{FollowsNode}
-use Rattle.followed_files.proofs.RewrittenFrames.{end_is}
+use Rattle.followed_files.proofs.RecordFrames.{end_is}
 
 all_three : (a b c : Bool) → (a && (b && c)) ≡ true → (a ≡ true) × (b ≡ true) × (c ≡ true)
 all_three true true true e = (refl, refl, refl)

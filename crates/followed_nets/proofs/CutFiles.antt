@@ -7,6 +7,7 @@ use Rattle.std.proofs.lemmas.List.{length-append}
 use Rattle.at_base.specs.declared.record.Record.{Record}
 use Rattle.followed_files.specs.Crashes.{CrashesAreFollowed, MayRecord, with_if}
 use Rattle.followed_files.specs.Follows.{FollowsFiles, FollowsNode, IsLeft, left_of}
+use Rattle.followed_files.proofs.RecordFrames.{end_is}
 use Rattle.journal_at.specs.Format.{Closed, frames}
 use Rattle.live_files.specs.LiveFiles.{LiveFile, crashed, grown}
 use Rattle.mirrored_nets.proofs.CallRows.{disk_is, sent_is}
@@ -30,7 +31,6 @@ use Rattle.site_model.specs.Counts.{capped}
 use Rattle.site_model.specs.Told.{Files, Made, done, file_of}
 use Rattle.torn_appends.specs.TornAppends.{IsSending, append_calls, stands_behind, up_to}
 use Rattle.std.proofs.Math.Seq.{drop-append_seam}
-use Rattle.mirrored_nets.proofs.RecordFrames.{end_is}
 
 pub either_long : (live most : ℕ) (f : Files) → length f.first ≤ most → length f.second ≤ most → length (file_of live f) ≤ most
 either_long zero most f h k = h

@@ -13,7 +13,7 @@ use Rattle.at_model.specs.Recovery.{last_incarnation}
 use Rattle.at_model.specs.World.{Ask, Crash, Input, Node as Noded, Turn, Up, World, WorldEvent, example_base, node_of, nth, put_nth}
 use Rattle.followed_events.specs.FollowedEvents.{followed}
 use Rattle.followed_events.specs.Meetings.{file_at, files_behind, followed_by, left_by, left_in}
-use Rattle.followed_files.specs.Follows.{FollowsHost, left_of}
+use Rattle.followed_files.specs.Follows.{FollowsHost, choice_of, left_of}
 use Rattle.http_post.specs.Laws.{WaitOrNot}
 use Rattle.live_files.specs.LiveFiles.{LiveFile, unstarted}
 use Rattle.memory_net.specs.Hosts.{IsFresh}
@@ -21,15 +21,16 @@ use Rattle.memory_net.specs.Mails.{mail_of}
 use Rattle.memory_net.specs.declared.host.Host.{Host}
 use Rattle.mirrored_nets.proofs.NetEvents.{numbered}
 use Rattle.mirrored_nets.proofs.PossibleMoves.{same_lines}
-use Rattle.mirrored_nets.specs.ArmedCalls.{call_of, choice_of, fault_at}
-use Rattle.mirrored_nets.specs.Goings.{CameUp, IsSet}
+use Rattle.mirrored_nets.proofs.ToldMachines.{told_some}
+use Rattle.mirrored_nets.specs.ArmedCalls.{call_of, fault_at}
+use Rattle.mirrored_nets.specs.Goings.{IsSet}
 use Rattle.mirrored_nets.specs.Mirrors.{Mirrors}
 use Rattle.mirrored_nets.specs.NetMoves.{NetStepBy}
 use Rattle.mirrored_nets.specs.NetSteps.{AsksNode, CrashesNode, IsCutBy, IsUnstarted, NetStep, RestsNode, StartsNode, TookRequestBy, TookTurnBy, TurnsNode}
 use Rattle.mirrored_nets.specs.Rewritings.{RewritesNode}
 use Rattle.mirrored_nets.specs.Seen.{Seen}
+use Rattle.mirrored_nets.specs.Started.{StartedStruck, StartedWhole}
 use Rattle.mirrored_nets.specs.TookAnew.{TookAnew}
-use Rattle.mirrored_nets.specs.TookStart.{TookStart}
 use Rattle.mirrored_nets.specs.declared.came.Came.{Came}
 use Rattle.mirrored_nets.specs.declared.came.Came.TheVariants as cames
 use Rattle.mirrored_nets.specs.declared.judged.Armed.TheVariants as calls
@@ -41,8 +42,9 @@ use Rattle.schedules.specs.declared.line.Leaves.TheVariants as leaves
 use Rattle.settling.proofs.Places.{nth_within}
 use Rattle.site_memory.specs.declared.arm.Choice.{Choice}
 use Rattle.site_memory.specs.declared.machine.MemSite.{MemSite}
+use Rattle.site_model.specs.Told.{Made}
 use Rattle.world_laws.proofs.Nodes.{put_same}
-use Rattle.followed_nets.specs.MovesFollow.{FollowsAll, MovesFollow, all_unstarted}
+use Rattle.followed_nets.specs.MovesFollow.{FollowsAll, MovesFollow}
 use Rattle.followed_nets.specs.NetsFollow.{IsLeftBy, NetsFollow}
 
 same_some : {A : Type 0} (x y : A) → Some x ≡ Some y → x ≡ y
@@ -87,7 +89,7 @@ all_same (suc many) n = by (nat_eq n 1) (all_same many (n - 1))
     by false rest = rest
 
 -- nodes none of which has started
-opened : NetsFollow → (count many : ℕ) (net : Seen) → IsUnstarted count net → FollowsAll (all_unstarted many) net.hosts
+opened : NetsFollow → (count many : ℕ) (net : Seen) → IsUnstarted count net → FollowsAll (replicate many unstarted) net.hosts
 opened F count many net U n h here = subst (λ (f : LiveFile). FollowsHost f h) (sym (all_same many n)) (F.opened h (fresh_at n net.hosts here U.fresh))
   where
     fresh_at : (n : ℕ) (hosts : List Host) → nth n hosts ≡ Some h → AllByRecursion IsFresh hosts → IsFresh h
@@ -107,22 +109,22 @@ left_choice (leaves.Fill byte) = refl
 stop_choice : (k l : ℕ) (a b : Choice) → calls.Stop k a ≡ calls.Stop l b → a ≡ b
 stop_choice k l a b e = cc
 
-cut_fault : (k : ℕ) (f : Fault) (came : Came) → IsCutBy (fault_at k f) came → IsLeftBy (left_by f) came
-cut_fault k f cames.Stays cut = tt
-cut_fault k faults.Fail (cames.Falls kept choice) (l, e) = absurd cc
-cut_fault k (faults.Stop left) (cames.Falls kept choice) (l, e) = left_choice left ∙ ap left_of (stop_choice k l (choice_of left) choice e)
-cut_fault k faults.Fail cames.Halts cut = refl
-cut_fault k (faults.Stop left) cames.Halts (l, e) = absurd cc
+cut_fault : (k : ℕ) (f : Fault) (made : List Made) (came : Came) → IsCutBy (fault_at k f) made came → IsLeftBy (left_by f) came
+cut_fault k f made cames.Stays cut = tt
+cut_fault k faults.Fail made (cames.Falls kept choice) (l, e, many) = absurd cc
+cut_fault k (faults.Stop left) made (cames.Falls kept choice) (l, e, many) = left_choice left ∙ ap left_of (stop_choice k l (choice_of left) choice e)
+cut_fault k faults.Fail made cames.Halts cut = refl
+cut_fault k (faults.Stop left) made cames.Halts (l, e) = absurd cc
 
 abbrev left_for : Option Known → Leaves
 left_for None = leaves.Drop
 left_for (Some a) = left_by a.fault
 
-cut_left : (known : Option Known) (came : Came) → IsCutBy (call_of known) came → IsLeftBy (left_for known) came
-cut_left None cames.Stays cut = tt
-cut_left None (cames.Falls kept choice) (k, e) = absurd cc
-cut_left None cames.Halts (k, e) = absurd cc
-cut_left (Some a) came cut = cut_fault a.call a.fault came cut
+cut_left : (known : Option Known) (made : List Made) (came : Came) → IsCutBy (call_of known) made came → IsLeftBy (left_for known) came
+cut_left None made cames.Stays cut = tt
+cut_left None made (cames.Falls kept choice) (k, e, many) = absurd cc
+cut_left None made cames.Halts (k, e) = absurd cc
+cut_left (Some a) made came cut = cut_fault a.call a.fault made came cut
 
 -- what a crash in the event leaves
 abbrev left_at : Leaves → WorldEvent → Leaves
@@ -150,7 +152,7 @@ module _ (F : NetsFollow) (law : WaitOrNot) (count : ℕ) (w : World) (old new :
       subst (λ k. TookTurnBy (call_of known) i k s.lines s.bytes s.node s.machine s.behind (map mail_of old.letters) (map mail_of new.letters) fates until) M.many (s.took, s.cut) in
       put_all i s.host s.behind (followed (left_for known) w (Turn i input fates until) (file_at i files)) old.hosts new.hosts files s.here (numbered i old.hosts s.host s.here) (in_files i s.host s.here) s.hosts all
       (F.turned count old.hosts old.clocks (map mail_of old.letters) (map mail_of new.letters) w i s.clock s.host s.behind s.node input s.lines s.bytes s.machine fates until (left_for known) (file_at i files) few M
-      (numbered i old.hosts s.host s.here) s.here s.up s.time s.brought s.set both.0 (cut_left known both.0.came both.1) (all i s.host s.here))
+      (numbered i old.hosts s.host s.here) s.here s.up s.time s.brought s.set both.0 (cut_left known both.0.made both.0.came both.1) (all i s.host s.here))
 
   asks : (known : Option Known) (i : ℕ) (request : Local) (fates : List Bool) (until : Option ℕ) → AsksNode (call_of known) i request fates until old new
       → FollowsAll (put_nth i (followed (left_for known) w (Ask i request fates until) (file_at i files)) files) new.hosts
@@ -159,7 +161,7 @@ module _ (F : NetsFollow) (law : WaitOrNot) (count : ℕ) (w : World) (old new :
       subst (λ k. TookRequestBy (call_of known) i k request s.node s.machine s.behind (map mail_of old.letters) (map mail_of new.letters) fates until) M.many (s.took, s.cut) in
       put_all i s.host s.behind (followed (left_for known) w (Ask i request fates until) (file_at i files)) old.hosts new.hosts files s.here (numbered i old.hosts s.host s.here) (in_files i s.host s.here) s.hosts all
       (F.asked count old.hosts old.clocks (map mail_of old.letters) (map mail_of new.letters) w i s.clock s.host s.behind s.node request s.machine fates until (left_for known) (file_at i files) few M
-      (numbered i old.hosts s.host s.here) s.here s.up s.time s.named s.set both.0 (cut_left known both.0.came both.1) (all i s.host s.here))
+      (numbered i old.hosts s.host s.here) s.here s.up s.time s.named s.set both.0 (cut_left known both.0.made both.0.came both.1) (all i s.host s.here))
 
   crashed : (i : ℕ) → CrashesNode i old new → FollowsAll (put_nth i (followed leaves.Drop w (Crash i) (file_at i files)) files) new.hosts
   crashed i s =
@@ -173,24 +175,24 @@ module _ (F : NetsFollow) (law : WaitOrNot) (count : ℕ) (w : World) (old new :
   has_started None i landed stop h x found down (inr up) stops = absurd (up x found down)
   has_started (Some a) i landed stop h x found down (least, most, lands, ends, started) stops = started x found
 
-  started : (known : Option Known) (i : ℕ) (landed stop : Bool) → StrikesStart w i known landed stop → StartsNode i landed stop old new
+  started : (known : Option Known) (i : ℕ) (landed stop : Bool) → StrikesStart w i known landed stop → StartsNode (call_of known) i landed stop old new
       → FollowsAll (put_nth i (followed (left_for known) w (Up i landed stop) (file_at i files)) files) new.hosts
   started known i landed stop strikes s =
       put_all i s.host s.behind (followed (left_for known) w (Up i landed stop) (file_at i files)) old.hosts new.hosts files s.here (numbered i old.hosts s.host s.here) (in_files i s.host s.here) (ap (λ (z : Seen). z.hosts) s.are) all
       (by s.started.0 s.started.1 s.started.2)
     where
       by : (machine : MemSite) → IsSet s.clock s.host.site machine
-          → ((landed ≡ true) × (stop ≡ false) × CameUp (example_base i) machine s.behind) ⊎ ((landed ≡ true → stop ≡ true) × TookStart (example_base i) machine s.behind landed)
+          → StartedWhole (example_base i) landed stop s.host.site machine s.behind ⊎ StartedStruck (call_of known) (example_base i) landed stop s.host.site machine s.behind
           → FollowsHost (followed (left_for known) w (Up i landed stop) (file_at i files)) s.behind
-      by machine set (inl (lands, stays, came)) =
+      by machine set (inl (lands, stays, told, came)) =
           subst (λ l. FollowsHost (followed (left_for known) w (Up i l stop) (file_at i files)) s.behind) (sym lands)
           (subst (λ z. FollowsHost (followed (left_for known) w (Up i true z) (file_at i files)) s.behind) (sym stays)
           (F.upped count old.hosts old.clocks (map mail_of old.letters) w i s.clock s.host s.behind machine (left_for known) (file_at i files) few M (numbered i old.hosts s.host s.here) s.here s.down set came
           (all i s.host s.here)))
-      by machine set (inr (stops, took)) =
+      by machine set (inr (stops, told, fell)) =
           let (x, found, down) = node_there i s.host s.here in
           let has = has_started known i landed stop s.host x found (down s.down) strikes stops in
-          F.upped_not count old.hosts old.clocks (map mail_of old.letters) w i s.clock s.host s.behind x machine landed stop (left_for known) (file_at i files) few M (numbered i old.hosts s.host s.here) s.here s.down set took
+          F.upped_not count old.hosts old.clocks (map mail_of old.letters) w i s.clock s.host s.behind x machine landed stop (left_for known) (file_at i files) few M (numbered i old.hosts s.host s.here) s.here s.down set fell.took
           stops found has.0 has.1 s.room (all i s.host s.here)
 
   rests : (left : Leaves) (e : WorldEvent) → RestsNode e old new → FollowsAll (put_nth (node_of e) (followed left w e (file_at (node_of e) files)) files) new.hosts
@@ -231,7 +233,7 @@ module _ (F : NetsFollow) (law : WaitOrNot) (count : ℕ) (w : World) (old new :
       subst (λ k. IsStruckAnew w (Turn i input fates until) k (file_at i files) a call fates until) (same_lines law w (map mail_of old.letters) i input raw s.bytes lines s.lines can s.brought s.given) strikes in
       put_all i s.host s.behind (followed_by (meetings.Anew a call) w (Turn i input fates until) (file_at i files)) old.hosts new.hosts files s.here (numbered i old.hosts s.host s.here) (in_files i s.host s.here) s.hosts all
       (F.rewritten count old.hosts old.clocks (map mail_of old.letters) (map mail_of new.letters) w i s.clock s.host s.behind s.node input s.lines s.bytes s.machine fates until a call (file_at i files) few M
-      (numbered i old.hosts s.host s.here) s.here s.up s.time s.brought s.set s.told took struck (all i s.host s.here))
+      (numbered i old.hosts s.host s.here) s.here s.up s.time s.brought s.set (told_some (call_of (Some a)) s.machine s.told) took struck (all i s.host s.here))
 
   moved : (met : Meeting) (e : WorldEvent) (raw : List ℕ) → CanMeet count w (file_at (node_of e) files) e raw met → NetStepBy met e raw old new → FollowsAll (files_behind met w e files) new.hosts
   moved meetings.Nothing e raw can step =

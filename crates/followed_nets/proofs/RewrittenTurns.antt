@@ -29,7 +29,6 @@ use Rattle.mirrored_nets.proofs.RewritingFates.{anew_read}
 use Rattle.mirrored_nets.proofs.RewritingsMirrored.{before, comes_by, ends_so, first_falls, first_halts_not, first_stays, from as begins, front_long, halted as has_halted, left_by, long as line_long, old_calls, same_site, starts_so, there as in_world, turn as turned, up_now, whole_stays}
 use Rattle.mirrored_nets.proofs.RewritingsMirrored.{H as heard_turn}
 use Rattle.mirrored_nets.proofs.TurnsTaken.{HeardTurn, TurnLaws}
-use Rattle.mirrored_nets.specs.ArmedCalls.{choice_of as armed_choice}
 use Rattle.mirrored_nets.specs.Fates.{AllDone, IsDone, anew_of}
 use Rattle.mirrored_nets.specs.Goings.{IsBrought, IsSet, ms_of}
 use Rattle.mirrored_nets.specs.Kept.{kept_at as kept_in}
@@ -83,15 +82,10 @@ pub record StopsSo (kept : ℕ) (choice : Choice) (fault : Fault) (n call lines 
   pub choice_is : choice ≡ choice_of left
   pub kept_is : kept ≡ kept_in made n choice
 
-same_choice : (left : Leaves) → armed_choice left ≡ choice_of left
-same_choice leaves.Keep = refl
-same_choice leaves.Drop = refl
-same_choice (leaves.Fill byte) = refl
-
 falls_so : (kept : ℕ) (choice : Choice) (fault : Fault) (n call lines : ℕ) (made : List Made) → ComesAnew (cames.Falls kept choice) fault n call lines made → StopsSo kept choice fault n call lines made
 falls_so kept choice faults.Fail n call lines made h = absurd h
 falls_so kept choice (faults.Stop left) n call lines made (stops, e, k) =
-    record { left = left; is = refl; stops = stops; choice_is = e ∙ same_choice left; kept_is = k ∙ ap (kept_in made n) (sym e) }
+    record { left = left; is = refl; stops = stops; choice_is = e; kept_is = k ∙ ap (kept_in made n) (sym e) }
 
 -- what ends a row of calls, where it has so many
 same_back : (made front own line first sends back : List Made) → made ≡ front ++ own → made ≡ line ++ (first ++ (sends ++ back)) → length back ≡ length own → back ≡ own

@@ -11,6 +11,7 @@ use Rattle.followed_events.specs.FollowedEvents.{followed, is_up}
 use Rattle.followed_files.specs.Crashes.{CrashesAreFollowed}
 use Rattle.followed_files.specs.Follows.{FollowsFiles, FollowsHost, FollowsNode, IsEmpty, IsLeft, IsSettled}
 use Rattle.followed_files.specs.Starts.{StartsAreFollowed, begun_if}
+use Rattle.followed_files.proofs.RecordFrames.{end_is}
 use Rattle.journal_at.specs.declared.version.Version.TheVariants.{Two}
 use Rattle.live_files.specs.LiveFiles.{LiveFile, begun, crashed, grown, unstarted}
 use Rattle.memory_net.specs.Mails.{Mail}
@@ -48,7 +49,6 @@ use Rattle.node_worlds.specs.Machines.{RunsOnMachines}
 use Rattle.record_bytes.specs.Versions.{AreApart, AreBodies as RecordsAreBodies}
 use Rattle.site_memory.specs.Sites.{told_of}
 use Rattle.journal_at.proofs.Frames.{four}
-use Rattle.mirrored_nets.proofs.RecordFrames.{end_is}
 use Rattle.mirrored_nets.specs.Took.{HasRoom}
 use Rattle.site_memory.specs.Tells.{reads}
 use Rattle.site_model.specs.Told.{Files, file_of}

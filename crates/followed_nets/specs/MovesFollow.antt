@@ -17,12 +17,9 @@ use Rattle.possible_events.specs.PossibleEvents.{CanMeet}
 abbrev pub FollowsAll : List LiveFile → List Host → Type 0
 FollowsAll files hosts = (n : ℕ) (h : Host) → nth n hosts ≡ Some h → FollowsHost (file_at n files) h
 
-abbrev pub all_unstarted : ℕ → List LiveFile
-all_unstarted many = replicate many unstarted
-
 pub record MovesFollow : Type 0 where
   -- nodes none of which has started
-  pub opened : (count many : ℕ) (net : Seen) → IsUnstarted count net → FollowsAll (all_unstarted many) net.hosts
+  pub opened : (count many : ℕ) (net : Seen) → IsUnstarted count net → FollowsAll (replicate many unstarted) net.hosts
   -- behind each event that can be done, there are the files that it leaves
   pub moved : (count : ℕ) (w : World) (met : Meeting) (e : WorldEvent) (raw : List ℕ) (old new : Seen) (files : List LiveFile)
       → count ≤ 8 → count ≤ length files → Mirrors count old.hosts old.clocks (map mail_of old.letters) w → FollowsAll files old.hosts → CanMeet count w (file_at (node_of e) files) e raw met

@@ -9,6 +9,7 @@ use Rattle.at_model.specs.World.{Node as Known, example_hosts}
 use Rattle.decision_log.specs.Folds.{AreRecords}
 use Rattle.deliverables.specs.Bases.{ExamplesAreNodeBases}
 use Rattle.deliveries.specs.ByteNets.{ServeAsNets}
+use Rattle.followed_files.proofs.RecordFrames.{end_is}
 use Rattle.journal_at.specs.Format.{Closed, frames}
 use Rattle.journal_at.specs.Scans.{records_in}
 use Rattle.journal_at.specs.declared.version.Version.{Version}
@@ -39,7 +40,6 @@ use Rattle.mirrored_nets.specs.Took.{HasRoom}
 use Rattle.mirrored_nets.proofs.LeftStarts.{two_closed}
 use Rattle.mirrored_nets.proofs.OneStanding.{found_one, version_one}
 use Rattle.mirrored_nets.proofs.ReadRecords.{not_judged, not_misspelled, records_read}
-use Rattle.mirrored_nets.proofs.RecordFrames.{end_is}
 
 -- a file is as long as its bodies and their gate at least
 closed_long : (bodies : List (List ℕ)) (f : List ℕ) → Closed bodies f → length (frames bodies) + 1 ≤ length f

@@ -5,6 +5,7 @@ use Rattle.std.proofs.lemmas.List.{drop-map, take-map, take_all}
 use Rattle.std.proofs.lemmas.Bool.{cases_lt}
 use Rattle.armed_calls.specs.declared.fault.Armed.{Armed as Known}
 use Rattle.armed_calls.specs.declared.fault.Fault.TheVariants as faults
+use Rattle.followed_files.specs.Follows.{choice_of}
 use Rattle.schedules.specs.declared.line.Leaves.{Leaves}
 use Rattle.memory_net.specs.Calls.{Begins, IsServing, Requests, Turns}
 use Rattle.memory_net.specs.Mails.{Mail, mails_in}
@@ -20,7 +21,6 @@ use Rattle.site_memory.specs.declared.arm.Choice.{Choice}
 use Rattle.site_memory.specs.declared.entry.Entry.{Entry}
 use Rattle.site_memory.specs.declared.machine.MemSite.{MemSite}
 use Rattle.site_model.specs.Told.{Made, sent_by}
-use Rattle.mirrored_nets.specs.ArmedCalls.{choice_of}
 use Rattle.mirrored_nets.specs.Counted.{IsCounted}
 use Rattle.mirrored_nets.specs.Fates.{AllDone, AreAsked, failures, refusals}
 use Rattle.mirrored_nets.specs.Goings.{CameUp}
@@ -121,7 +121,7 @@ posted_so i count came calls kept mails more (e, h) = h ∙ ap (λ ms. mails ++ 
 pub took_turn : (armed : Armed) (i count lines before : ℕ) (bytes : List ℕ) (n m : Node) (old site : MemSite) (new : Host) (mails more : List Mail) (fates : List Bool) (until : Option ℕ) (result : Turned) (came : Came) (calls kept : List Entry)
     → HasRoom old → Turns bytes result n m old site → before ≡ length (calls_in old.device) → Adds (mades calls) old site → EndsSo came result → ComesTo came lines (mades calls) fates until
     → ((z : MemSite) → before ≡ length (calls_in z.device) → LeftSo came m z site new) → Posts i count came calls kept mails more
-    → IsTriedLine lines (take lines (mades calls)) → (m.shrunk ≡ NoMemory → ⊥) → IsCutBy armed came → TookTurnBy armed i count lines bytes n old new mails more fates until
+    → IsTriedLine lines (take lines (mades calls)) → (m.shrunk ≡ NoMemory → ⊥) → IsCutBy armed (mades calls) came → TookTurnBy armed i count lines bytes n old new mails more fates until
 took_turn armed i count lines before bytes n m old site new mails more fates until result came calls kept room turns since adds ends comes left posts tried remembers cut = (
   record {
     room = room;
@@ -145,7 +145,7 @@ took_turn armed i count lines before bytes n m old site new mails more fates unt
 pub took_request : (armed : Armed) (i count before : ℕ) (request : Local) (n m : Node) (old site : MemSite) (new : Host) (mails more : List Mail) (fates : List Bool) (until : Option ℕ) (answer : Locally) (came : Came) (calls kept : List Entry)
     → HasRoom old → Requests request answer n m old site → before ≡ length (calls_in old.device) → Adds (mades calls) old site → AnswersSo came answer → ComesTo came 0 (mades calls) fates until
     → ((z : MemSite) → before ≡ length (calls_in z.device) → LeftSo came m z site new) → Posts i count came calls kept mails more
-    → IsCutBy armed came → TookRequestBy armed i count request n old new mails more fates until
+    → IsCutBy armed (mades calls) came → TookRequestBy armed i count request n old new mails more fates until
 took_request armed i count before request n m old site new mails more fates until answer came calls kept room requests since adds ends comes left posts cut = (
   record {
     room = room;

@@ -5,13 +5,13 @@ use Rattle.std.proofs.lemmas.List.{length-append, length-map, map-append}
 use Rattle.armed_calls.specs.declared.fault.Fault.{Fault}
 use Rattle.armed_calls.specs.declared.fault.Fault.TheVariants as faults
 use Rattle.fated_walks.specs.Fated.{IsBeyond, StartsWith}
+use Rattle.followed_files.specs.Follows.{choice_of}
 use Rattle.live_files.specs.Rewritings.{failure_halts}
 use Rattle.schedules.specs.declared.line.Leaves.{Leaves}
 use Rattle.site_memory.specs.Entries.{made_of, mades}
 use Rattle.site_memory.specs.declared.arm.Choice.{Choice}
 use Rattle.site_memory.specs.declared.entry.Entry.{Entry}
 use Rattle.site_model.specs.Told.{Made}
-use Rattle.mirrored_nets.specs.ArmedCalls.{choice_of}
 use Rattle.mirrored_nets.specs.Fates.{AllDone, anew_of, fates_in}
 use Rattle.mirrored_nets.specs.Kept.{kept_at, writes_at}
 use Rattle.mirrored_nets.specs.TookAnew.{ComesAnew, FailsAnew, IsAskedWhole, StopsAnew, before_anew, of_six_in, shuts_first}

@@ -3,11 +3,11 @@ use Rattle.std.specs.Prelude.{ℕ, List, ◌+◌, ◌≡◌, Bool, Ok, Option, R
 use Rattle.std.proofs.Common.{ap, arith, refl, subst, ◌∙◌}
 use Rattle.armed_calls.specs.declared.fault.Armed.{Armed as Known}
 use Rattle.armed_calls.specs.declared.fault.Fault.TheVariants as faults
+use Rattle.followed_files.specs.Follows.{choice_of}
 use Rattle.node_at.specs.declared.local.Locally.{Locally}
 use Rattle.node_at.specs.declared.local.Locally.TheVariants as answers
 use Rattle.schedules.specs.declared.line.Leaves.{Leaves}
 use Rattle.site_model.specs.Told.{Made}
-use Rattle.mirrored_nets.specs.ArmedCalls.{choice_of}
 use Rattle.mirrored_nets.specs.Fates.{AllDone, AreAsked}
 use Rattle.mirrored_nets.specs.Struck.{ComesAt, IsUnhalted}
 use Rattle.mirrored_nets.specs.StruckRequests.{Goes, halts, stays, stops}

@@ -6,6 +6,7 @@ use Rattle.std.proofs.lemmas.List.{length-append, length-map}
 use Rattle.armed_calls.specs.Faults.{Met, at_out, at_record, is_stop, met, out_leaves, record_ends, record_stands}
 use Rattle.armed_calls.specs.declared.fault.Armed.{Armed}
 use Rattle.armed_calls.specs.declared.fault.Fault.TheVariants as faults
+use Rattle.followed_files.specs.Follows.{choice_of}
 use Rattle.journal_at.specs.declared.journal.Journal.{Journal}
 use Rattle.node_events.specs.NodeEvents.{one_if, struck}
 use Rattle.schedules.specs.declared.line.Leaves.{Leaves}
@@ -16,7 +17,6 @@ use Rattle.site_memory.specs.declared.arm.Choice.TheVariants as choices
 use Rattle.site_memory.specs.declared.entry.Entry.{Entry}
 use Rattle.site_model.specs.Told.{Call, Made, done}
 use Rattle.torn_appends.specs.TornAppends.{append_calls, stands_behind}
-use Rattle.mirrored_nets.specs.ArmedCalls.{choice_of}
 use Rattle.mirrored_nets.specs.Fates.{behind_disk, disk_part, fates_in, is_disk, is_done, record_fate, sent_of, sent_part}
 use Rattle.mirrored_nets.specs.Kept.{is_write, kept_at, writes_at}
 use Rattle.mirrored_nets.specs.Struck.{ComesAt, HasRecord}

@@ -55,7 +55,6 @@ pub mod PossibleRewritings
 pub mod PossibleStarts
 pub mod ReadRecords
 pub mod ReadyHosts
-pub mod RecordFrames
 pub mod Remirrored
 pub mod RequestsRead
 pub mod RewritingAnswers

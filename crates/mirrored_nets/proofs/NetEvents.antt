@@ -13,14 +13,14 @@ use Rattle.site_memory.specs.Tells.{reads}
 use Rattle.site_memory.specs.declared.machine.MemSite.{MemSite}
 use Rattle.site_model.specs.Told.{Files}
 use Rattle.world_laws.proofs.NumberedItems.{nth_none}
-use Rattle.mirrored_nets.specs.Goings.{CameUp, IsBrought, IsNothing, IsSet, NetsMirror, WentDown, ms_of}
+use Rattle.mirrored_nets.specs.Goings.{IsBrought, IsNothing, IsSet, NetsMirror, WentDown, ms_of}
 use Rattle.mirrored_nets.specs.Mirrors.{AllServe, MayServe, Mirrors}
 use Rattle.mirrored_nets.specs.NetSteps.{IsGiven, MoveAnswers, MovesNode, NetStep, StartsNode, StepAnswers, TookRequestBy, TookTurnBy}
-use Rattle.mirrored_nets.specs.Seen.{Seen}
-use Rattle.mirrored_nets.specs.Started.{Started}
 use Rattle.mirrored_nets.specs.Rooms.{HasRoomAt, IsFullAt}
+use Rattle.mirrored_nets.specs.Seen.{Seen}
+use Rattle.mirrored_nets.specs.Started.{Started, StartedStruck, StartedWhole}
+use Rattle.mirrored_nets.specs.StruckTurns.{IsToldOf}
 use Rattle.mirrored_nets.specs.Took.{HasRoom, IsFull, TookRequest, TookTurn}
-use Rattle.mirrored_nets.specs.TookStart.{TookStart}
 use Rattle.mirrored_nets.specs.Unarmed.{IsntApart}
 use Rattle.mirrored_nets.specs.declared.fault.Unlike.{Unlike}
 use Rattle.mirrored_nets.specs.declared.fault.Unlike.TheVariants.{Apart}
@@ -109,7 +109,7 @@ module _ (i : ℕ) (hosts new : List Host) (clocks : List ℕ) (letters : List L
         are = put;
       })
 
-  pub starts : (armed : Armed) (up landed stop : Bool) (c : ℕ) (site : MemSite) (base : List ℕ) → IsUp hosts i up → up ≡ false → HasRoom h.site → nth i clocks ≡ Some c → base ≡ example_base i → site ≡ h.site → Started base c landed stop site g
+  pub starts : (armed : Armed) (up landed stop : Bool) (c : ℕ) (site : MemSite) (base : List ℕ) → IsUp hosts i up → up ≡ false → HasRoom h.site → nth i clocks ≡ Some c → base ≡ example_base i → site ≡ h.site → Started armed base c landed stop site g
       → NetStep armed (Up i landed stop) [] (net_of hosts clocks letters) (net_of new clocks letters)
   starts armed up landed stop c site base is e room clock named same started =
       inl (record {
@@ -120,14 +120,14 @@ module _ (i : ℕ) (hosts new : List Host) (clocks : List ℕ) (letters : List L
         clock = c;
         time = clock;
         behind = g;
-        started = subst (λ (s : MemSite). Started (example_base i) c landed stop s g) same (subst (λ b. Started b c landed stop site g) named started);
+        started = subst (λ (s : MemSite). Started armed (example_base i) c landed stop s g) same (subst (λ b. Started armed b c landed stop site g) named started);
         are = put;
       })
 
   pub asks : (armed : Armed) (n : Node) (c many : ℕ) (request : Local) (site machine : MemSite) (more : List Letter) (fates : List Bool) (until : Option ℕ) → h.node ≡ Some n → nth i clocks ≡ Some c → many ≡ length hosts → IsExampleRequest request
-      → site ≡ h.site → IsSet c site machine → TookRequestBy armed i many request n machine g (map mail_of letters) (map mail_of more) fates until
+      → site ≡ h.site → IsSet c site machine → IsToldOf armed machine → TookRequestBy armed i many request n machine g (map mail_of letters) (map mail_of more) fates until
       → NetStep armed (Ask i request fates until) [] (net_of hosts clocks letters) (net_of new clocks more)
-  asks armed n c many request site machine more fates until up clock all named same set took =
+  asks armed n c many request site machine more fates until up clock all named same set told took =
       inl (record {
         host = h;
         here = here;
@@ -138,6 +138,7 @@ module _ (i : ℕ) (hosts new : List Host) (clocks : List ℕ) (letters : List L
         named = named;
         machine = machine;
         set = subst (λ (s : MemSite). IsSet c s machine) same set;
+        told = told;
         behind = g;
         took = by.0;
         cut = by.1;
@@ -149,10 +150,10 @@ module _ (i : ℕ) (hosts new : List Host) (clocks : List ℕ) (letters : List L
       by = subst (λ k. TookRequestBy armed i k request n machine g (map mail_of letters) (map mail_of more) fates until) all took
 
   pub turns : (armed : Armed) (n : Node) (c many now lines : ℕ) (input : Input) (bytes raw : List ℕ) (site machine : MemSite) (times : List ℕ) (more : List Letter) (fates : List Bool) (until : Option ℕ) → h.node ≡ Some n → nth i clocks ≡ Some c
-      → many ≡ length hosts → IsBrought (map mail_of letters) i input lines bytes → IsGiven input raw bytes → now ≡ c + ms_of input → site ≡ h.site → IsSet now site machine
+      → many ≡ length hosts → IsBrought (map mail_of letters) i input lines bytes → IsGiven input raw bytes → now ≡ c + ms_of input → site ≡ h.site → IsSet now site machine → IsToldOf armed machine
       → TookTurnBy armed i many lines bytes n machine g (map mail_of letters) (map mail_of more) fates until → times ≡ put_nth i now clocks
       → NetStep armed (Turn i input fates until) raw (net_of hosts clocks letters) (net_of new times more)
-  turns armed n c many now lines input bytes raw site machine times more fates until up clock all brought given later same set took ticks =
+  turns armed n c many now lines input bytes raw site machine times more fates until up clock all brought given later same set told took ticks =
       inl (record {
         host = h;
         here = here;
@@ -166,6 +167,7 @@ module _ (i : ℕ) (hosts new : List Host) (clocks : List ℕ) (letters : List L
         given = given;
         machine = machine;
         set = subst (λ (s : MemSite). IsSet (c + ms_of input) s machine) same (subst (λ k. IsSet k site machine) later set);
+        told = told;
         behind = g;
         took = by.0;
         cut = by.1;
@@ -185,18 +187,18 @@ module _ (mirror : NetsMirror) (old new : Seen) (count : ℕ) (w : World) (few :
   of_parts v hosts clocks puts ticks m =
       subst (λ (l : List Host). Mirrors count l new.clocks (map mail_of new.letters) v) (sym puts) (subst (λ (z : List ℕ). Mirrors count hosts z (map mail_of new.letters) v) (sym ticks) m)
 
-  begun_by : (i : ℕ) (landed stop : Bool) (s : StartsNode i landed stop old new) → Mirrors count (put_nth i s.behind old.hosts) old.clocks (map mail_of old.letters) (world_step w (Up i landed stop))
-  begun_by i landed stop s = by s.started.0 s.started.1 s.started.2
+  begun_by : (armed : Armed) (i : ℕ) (landed stop : Bool) (s : StartsNode armed i landed stop old new) → Mirrors count (put_nth i s.behind old.hosts) old.clocks (map mail_of old.letters) (world_step w (Up i landed stop))
+  begun_by armed i landed stop s = by s.started.0 s.started.1 s.started.2
     where
       by : (machine : MemSite) → IsSet s.clock s.host.site machine
-          → ((landed ≡ true) × (stop ≡ false) × CameUp (example_base i) machine s.behind) ⊎ ((landed ≡ true → stop ≡ true) × TookStart (example_base i) machine s.behind landed)
+          → StartedWhole (example_base i) landed stop s.host.site machine s.behind ⊎ StartedStruck armed (example_base i) landed stop s.host.site machine s.behind
           → Mirrors count (put_nth i s.behind old.hosts) old.clocks (map mail_of old.letters) (world_step w (Up i landed stop))
-      by machine set (inl (lands, stays, came)) =
+      by machine set (inl (lands, stays, told, came)) =
           subst (λ l. Mirrors count (put_nth i s.behind old.hosts) old.clocks (map mail_of old.letters) (world_step w (Up i l stop))) (sym lands)
           (subst (λ z. Mirrors count (put_nth i s.behind old.hosts) old.clocks (map mail_of old.letters) (world_step w (Up i true z))) (sym stays)
           (mirror.upped count old.hosts old.clocks (map mail_of old.letters) w i s.clock s.host s.behind machine few mirrors (numbered i old.hosts s.host s.here) s.here s.down set came))
-      by machine set (inr (stops, took)) =
-          mirror.upped_not count old.hosts old.clocks (map mail_of old.letters) w i s.clock s.host s.behind machine landed stop few mirrors (numbered i old.hosts s.host s.here) s.here s.down set took stops
+      by machine set (inr (stops, told, struck)) =
+          mirror.upped_not count old.hosts old.clocks (map mail_of old.letters) w i s.clock s.host s.behind machine landed stop few mirrors (numbered i old.hosts s.host s.here) s.here s.down set struck.took stops
 
   moved : (armed : Armed) (e : WorldEvent) (raw : List ℕ) → MovesNode armed e raw old new → Mirrors count new.hosts new.clocks (map mail_of new.letters) (world_step w e)
   moved armed (Turn i input fates until) raw s =
@@ -211,7 +213,7 @@ module _ (mirror : NetsMirror) (old new : Seen) (count : ℕ) (w : World) (few :
       seen_as (world_step w (Crash i)) (record old { hosts = put_nth i s.behind old.hosts }) s.are
       (mirror.downed count old.hosts old.clocks (map mail_of old.letters) w i s.host s.behind s.node few mirrors (numbered i old.hosts s.host s.here) s.here s.up s.went)
   moved armed (Up i landed stop) raw s =
-      seen_as (world_step w (Up i landed stop)) (record old { hosts = put_nth i s.behind old.hosts }) s.are (begun_by i landed stop s)
+      seen_as (world_step w (Up i landed stop)) (record old { hosts = put_nth i s.behind old.hosts }) s.are (begun_by armed i landed stop s)
 
   pub mirrored : (armed : Armed) (e : WorldEvent) (raw : List ℕ) → NetStep armed e raw old new → Mirrors count new.hosts new.clocks (map mail_of new.letters) (world_step w e)
   mirrored armed e raw (inl s) = moved armed e raw s

@@ -21,14 +21,15 @@ use Rattle.mirrored_nets.specs.PossibleMeetings.{CanBeMet}
 use Rattle.mirrored_nets.specs.PossibleMoves.{CanBe}
 use Rattle.mirrored_nets.specs.Rewritings.{CanRewrite, RewritesNode, RewritingsMirror}
 use Rattle.mirrored_nets.specs.Seen.{Seen}
+use Rattle.mirrored_nets.specs.StruckTurns.{IsToldOf}
 use Rattle.mirrored_nets.specs.TookAnew.{TookAnew}
-use Rattle.mirrored_nets.specs.Unarmed.{IsTold}
 use Rattle.mirrored_nets.proofs.NetEvents.{mirrored, net_of, numbered, of_parts, same_few, same_mirrors, step_answers}
+use Rattle.mirrored_nets.proofs.ToldMachines.{told_some}
 
 -- a turn that was taken at a host of these parts
 pub rewrites : (i : ℕ) (hosts new : List Host) (clocks : List ℕ) (letters : List Letter) (h g : Host) → nth i hosts ≡ Some h → new ≡ put_nth i g hosts → (n : Node) (c many now lines : ℕ) (input : Input) (bytes raw : List ℕ)
     (site machine : MemSite) (times : List ℕ) (more : List Letter) (fates : List Bool) (until : Option ℕ) (a : Known) (call : ℕ) → h.node ≡ Some n → nth i clocks ≡ Some c
-    → many ≡ length hosts → IsBrought (map mail_of letters) i input lines bytes → IsGiven input raw bytes → now ≡ c + ms_of input → site ≡ h.site → IsSet now site machine → IsTold machine
+    → many ≡ length hosts → IsBrought (map mail_of letters) i input lines bytes → IsGiven input raw bytes → now ≡ c + ms_of input → site ≡ h.site → IsSet now site machine → IsToldOf (call_of (Some a)) machine
     → TookAnew i many lines bytes n machine g (map mail_of letters) (map mail_of more) fates until a call → times ≡ put_nth i now clocks
     → RewritesNode i input fates until raw a call (net_of hosts clocks letters) (net_of new times more)
 rewrites i hosts new clocks letters h g here puts n c many now lines input bytes raw site machine times more fates until a call up clock all brought given later same set told took ticks = record {
@@ -67,7 +68,7 @@ module _ (mirror : NetsMirror) (anew : RewritingsMirror) (old new : Seen) (count
       mirrors =
           of_parts mirror old new count w few mirrors (world_behind (meetings.Anew a call) w (Turn i input fates until)) (put_nth i s.behind old.hosts) (put_nth i (s.clock + ms_of input) old.clocks) s.hosts s.clocks
           (anew.turned count old.hosts old.clocks (map mail_of old.letters) (map mail_of new.letters) w i s.clock s.host s.behind s.node input s.lines s.bytes s.machine fates until a call few mirrors
-          (numbered i old.hosts s.host s.here) s.here s.up s.time s.brought s.set s.told
+          (numbered i old.hosts s.host s.here) s.here s.up s.time s.brought s.set (told_some (call_of (Some a)) s.machine s.told)
           (subst (λ k. TookAnew i k s.lines s.bytes s.node s.machine s.behind (map mail_of old.letters) (map mail_of new.letters) fates until a call) mirrors.many s.took));
     }
 

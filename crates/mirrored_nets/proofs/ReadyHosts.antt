@@ -26,6 +26,7 @@ use Rattle.mirrored_nets.specs.Took.{AnswersSo, EndsSo, IsWhole, LeftSo, TookReq
 use Rattle.mirrored_nets.specs.Unarmed.{IsReady, IsTold}
 use Rattle.mirrored_nets.specs.declared.came.Came.{Came}
 use Rattle.mirrored_nets.specs.declared.came.Came.TheVariants as cames
+use Rattle.mirrored_nets.specs.declared.judged.Armed.{Armed}
 use Rattle.mirrored_nets.proofs.ToldMachines.{crashed_ready, told_ready}
 use Rattle.mirrored_nets.proofs.AskedMachines.{request_kept}
 use Rattle.mirrored_nets.proofs.EndedTurns.{turn_kept}
@@ -49,11 +50,12 @@ begins_kept base (Err fault) old new begins = ap (λ (k : Counts). k.arming) beg
 pub kept_told : (old new : MemSite) → (told_of new).counts.arming ≡ (told_of old).counts.arming → IsTold old → IsTold new
 kept_told old new kept (arming, told) = (arming, kept ∙ told)
 
-pub started_serves : LinksHold → (base : List ℕ) (c : ℕ) (landed stop : Bool) (site : MemSite) (g : Host) → IsReady site → Started base c landed stop site g → MayServe g
-started_serves law base c landed stop site g ready (old, set, inl (lands, stays, came)) =
+pub started_serves : LinksHold → (armed : Armed) (base : List ℕ) (c : ℕ) (landed stop : Bool) (site : MemSite) (g : Host) → IsReady site → Started armed base c landed stop site g → MayServe g
+started_serves law armed base c landed stop site g ready (old, set, inl (lands, stays, told, came)) =
     up_serves g came.node came.is came.serving came.begins.0.runs
     (told_ready law g.site (kept_told old g.site (begins_kept base (Ok came.node) old g.site came.begins) (set.told ready)))
-started_serves law base c landed stop site g ready (old, set, inr (stops, took)) =
+started_serves law armed base c landed stop site g ready (old, set, inr (stops, told, struck)) =
+    let took = struck.took in
     off_serves g took.down
     (crashed_ready took.site g.site took.fell.left.arm took.fell.links
     (told_ready law took.site (kept_told old took.site (begins_kept base took.result old took.site took.begins) (set.told ready))).links)

@@ -10,6 +10,7 @@ use Rattle.at_base.specs.declared.outs.Out.{Out}
 use Rattle.at_base.specs.declared.outs.Out.TheVariants as outs
 use Rattle.at_model.specs.Book.{Book}
 use Rattle.followed_events.specs.Meetings.{ends_anew}
+use Rattle.followed_files.specs.Follows.{choice_of}
 use Rattle.http_post.specs.OutBytes.{has_reason}
 use Rattle.journal_at.specs.StandingBodies.{Makes, lay, raise}
 use Rattle.journal_at.specs.declared.journal.Append.TheVariants as appends
@@ -34,7 +35,6 @@ use Rattle.site_memory.specs.declared.machine.MemSite.{MemSite}
 use Rattle.site_model.specs.Counts.{Rose}
 use Rattle.site_model.specs.Site.{Arming}
 use Rattle.site_model.specs.Told.{Made, done}
-use Rattle.mirrored_nets.specs.ArmedCalls.{choice_of}
 use Rattle.mirrored_nets.specs.Fates.{anew_of, behind_sent}
 use Rattle.mirrored_nets.specs.Kept.{kept_at, writes_at}
 use Rattle.mirrored_nets.specs.Took.{IsWhole}

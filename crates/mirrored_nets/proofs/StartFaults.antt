@@ -6,6 +6,7 @@ use Rattle.armed_calls.specs.Faults.{record_stands, start_calls}
 use Rattle.armed_calls.specs.declared.fault.Armed.{Armed as Known}
 use Rattle.armed_calls.specs.declared.fault.Fault.{Fault}
 use Rattle.armed_calls.specs.declared.fault.Fault.TheVariants as faults
+use Rattle.followed_files.specs.Follows.{choice_of}
 use Rattle.followed_files.specs.Starts.{MayBeStruck}
 use Rattle.journal_at.specs.declared.version.Version.TheVariants.{Two}
 use Rattle.memory_net.specs.Calls.{Begins}
@@ -25,17 +26,18 @@ use Rattle.site_memory.specs.Tells.{reads}
 use Rattle.site_memory.proofs.Images.{seen_image}
 use Rattle.site_model.specs.Told.{Made}
 use Rattle.torn_appends.specs.TornAppends.{stands_behind}
-use Rattle.mirrored_nets.specs.ArmedCalls.{call_of, choice_of, fault_at}
+use Rattle.mirrored_nets.specs.ArmedCalls.{call_of, fault_at}
 use Rattle.mirrored_nets.specs.Goings.{IsSet}
 use Rattle.mirrored_nets.specs.Kept.{kept_at}
 use Rattle.mirrored_nets.specs.StruckStarts.{FailedStartsLeave, IsBegun, IsMarked, IsStanding, LeavesFailed, LeavesStart, StartsLeave, may_fail}
 use Rattle.mirrored_nets.specs.StruckTurns.{IsToldOf}
 use Rattle.mirrored_nets.specs.Took.{Adds, FellBack}
-use Rattle.mirrored_nets.specs.TookStart.{HasLast}
+use Rattle.mirrored_nets.specs.TookStart.{HasLast, IsCutStart}
 use Rattle.mirrored_nets.specs.declared.fault.Unlike.{Unlike}
+use Rattle.mirrored_nets.specs.declared.fault.Unlike.TheVariants.{Apart}
 use Rattle.mirrored_nets.specs.declared.judged.Armed.{Armed}
 use Rattle.mirrored_nets.specs.declared.judged.Armed.TheVariants as calls
-use Rattle.mirrored_nets.proofs.HostSteps.{ok_is}
+use Rattle.mirrored_nets.proofs.HostSteps.{not_err, ok_is}
 use Rattle.mirrored_nets.proofs.StruckKept.{stops_at}
 
 -- the machine when it is set for it
@@ -140,3 +142,10 @@ may_be_struck armed (Err starts.Disk) h = tt
 may_be_struck armed (Err (starts.Bad file place)) h = absurd cc
 may_be_struck armed (Err starts.Spent) h = absurd cc
 may_be_struck armed (Err starts.Full) h = absurd cc
+
+-- what is kept is what the armed call leaves
+pub cut_so : (armed : Armed) (made : List Made) (result : Result (ℕ × Choice) Unlike) (kept : ℕ) (choice : Choice) → result ≡ Ok (kept, choice) → ((k : ℕ) → armed ≡ calls.Fail k → result ≡ Ok (length made, Keep))
+    → ((k : ℕ) (left : Choice) → armed ≡ calls.Stop k left → result ≡ Ok (kept_at made k left, left)) → (armed ≡ calls.No → result ≡ Err Apart) → IsCutStart armed made kept choice
+cut_so calls.No made result kept choice is fails stops none = absurd (not_err result Apart (kept, choice) (none refl) is)
+cut_so (calls.Fail k) made result kept choice is fails stops none = kept_is kept (length made) choice Keep result is (fails k refl)
+cut_so (calls.Stop k left) made result kept choice is fails stops none = kept_is kept (kept_at made k left) choice left result is (stops k left refl)

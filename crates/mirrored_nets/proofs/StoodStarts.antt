@@ -6,6 +6,7 @@ use Rattle.std.proofs.lemmas.List.{append_assoc, append-nil, take_all}
 use Rattle.at_base.specs.declared.record.Record.{Record}
 use Rattle.at_model.specs.Recovery.{last_incarnation}
 use Rattle.decision_log.specs.Folds.{AreRecords}
+use Rattle.followed_files.proofs.RecordFrames.{end_is}
 use Rattle.journal_at.specs.Format.{AreListed, Closed, frames, head_of, records_of}
 use Rattle.journal_at.specs.Loads.{syncs}
 use Rattle.journal_at.specs.Pairs.{Holds}
@@ -31,7 +32,6 @@ use Rattle.mirrored_nets.specs.StruckStarts.{IsMarked, IsStanding}
 use Rattle.mirrored_nets.specs.TookStart.{HasLast}
 use Rattle.mirrored_nets.proofs.LeftFiles.{head_more, may_follow, records_more, records_push}
 use Rattle.mirrored_nets.proofs.OneStanding.{found_one}
-use Rattle.mirrored_nets.proofs.RecordFrames.{end_is}
 use Rattle.mirrored_nets.proofs.UpsAndDowns.{last_push}
 
 -- records of version 2 whose last incarnation is this, or the next

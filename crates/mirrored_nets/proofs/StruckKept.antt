@@ -3,6 +3,7 @@ use Rattle.std.specs.Prelude.{ℕ, List, ◌++◌, ◌-◌, ◌≡◌, ◌≤◌
 use Rattle.std.proofs.Common.{refl, arith}
 use Rattle.armed_calls.specs.Faults.{record_stands}
 use Rattle.armed_calls.specs.declared.fault.Fault.TheVariants as faults
+use Rattle.followed_files.specs.Follows.{choice_of}
 use Rattle.journal_at.specs.Loads.{syncs}
 use Rattle.node_at.specs.Starts.{append_calls}
 use Rattle.schedules.specs.declared.line.Leaves.{Leaves}
@@ -10,7 +11,6 @@ use Rattle.schedules.specs.declared.line.Leaves.TheVariants as leaves
 use Rattle.site_memory.specs.declared.arm.Choice.TheVariants as choices
 use Rattle.site_model.specs.Told.{Made, done}
 use Rattle.torn_appends.specs.TornAppends.{stands_behind}
-use Rattle.mirrored_nets.specs.ArmedCalls.{choice_of}
 use Rattle.mirrored_nets.specs.Kept.{kept_at}
 
 abbrev all_made : ℕ → ℕ → List ℕ → List Made

@@ -15,6 +15,7 @@ use Rattle.completion_at.specs.declared.requests.Refusal.{Refusal}
 use Rattle.fated_walks.specs.CallsComing.{CallsComing}
 use Rattle.fated_walks.specs.Fated.{AllLeft, Fated, IsBeyond, IsWhole, StartsWith}
 use Rattle.fated_walks.specs.Fated.{fates_of as step_fates}
+use Rattle.followed_files.specs.Follows.{choice_of}
 use Rattle.memory_net.proofs.MailedPosts.{all_right}
 use Rattle.memory_net.proofs.Standing.{same_some}
 use Rattle.memory_net.specs.Calls.{Requests}
@@ -40,7 +41,7 @@ use Rattle.site_memory.specs.ToldCalls.{AreArmed, CallsFailAsTold, LinksHold}
 use Rattle.site_memory.specs.declared.machine.MemSite.{MemSite}
 use Rattle.site_model.specs.Told.{Made}
 use Rattle.world_laws.specs.Fates.{behind_done}
-use Rattle.mirrored_nets.specs.ArmedCalls.{call_of, choice_of, fault_at}
+use Rattle.mirrored_nets.specs.ArmedCalls.{call_of, fault_at}
 use Rattle.mirrored_nets.specs.Fates.{AllDone, AreAsked, IsDone, anew_of, disk_part, fates_in, is_done, record_fate, refusals}
 use Rattle.mirrored_nets.specs.Mirrors.{Mirrors}
 use Rattle.mirrored_nets.specs.Struck.{ComesAt, HasRecord}

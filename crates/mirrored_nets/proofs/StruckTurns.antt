@@ -8,6 +8,7 @@ use Rattle.armed_calls.specs.declared.fault.Fault.{Fault}
 use Rattle.armed_calls.specs.declared.fault.Fault.TheVariants as faults
 use Rattle.at_model.specs.World.{Node, Turn, example_base, example_hosts}
 use Rattle.fated_walks.specs.CallsComing.{CallsComing}
+use Rattle.followed_files.specs.Follows.{choice_of}
 use Rattle.journal_at.specs.StandingBodies.{Makes}
 use Rattle.journal_at.specs.declared.journal.Append.TheVariants as appends
 use Rattle.memory_net.proofs.Standing.{same_some}
@@ -32,7 +33,7 @@ use Rattle.site_memory.specs.ToldCalls.{AreArmed, CallsFailAsTold, LinksHold}
 use Rattle.site_memory.specs.declared.machine.MemSite.{MemSite}
 use Rattle.site_model.specs.Counts.{Rose}
 use Rattle.site_model.specs.Told.{Made}
-use Rattle.mirrored_nets.specs.ArmedCalls.{call_of, choice_of, fault_at}
+use Rattle.mirrored_nets.specs.ArmedCalls.{call_of, fault_at}
 use Rattle.mirrored_nets.specs.Fates.{AllDone, refusals}
 use Rattle.mirrored_nets.specs.Goings.{ms_of}
 use Rattle.mirrored_nets.specs.Mirrors.{Mirrors}

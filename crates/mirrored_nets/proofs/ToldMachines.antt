@@ -16,8 +16,10 @@ use Rattle.site_model.specs.Counts.{Rose}
 use Rattle.site_model.specs.Told.{Made}
 use Rattle.mirrored_nets.specs.Fates.{refusals}
 use Rattle.mirrored_nets.specs.Goings.{IsSet}
+use Rattle.mirrored_nets.specs.StruckTurns.{IsToldOf, fails_of}
 use Rattle.mirrored_nets.specs.Took.{Adds}
 use Rattle.mirrored_nets.specs.Unarmed.{IsReady, IsTold}
+use Rattle.mirrored_nets.specs.declared.judged.Armed.{Armed}
 
 -- The calls since it was told which is to fail were done but for that one.
 pub armed_row : CallsFailAsTold → LinksHold → (old new : MemSite) (made : List Made) (fails : ℕ) → (told_of old).counts.arming ≡ Some (record { since = length (calls_in old.device); fails = fails })
@@ -32,6 +34,10 @@ isnt_stopped a made h =
     let (within, rest) = and_parts (nat_le a.since (length made)) (are_armed a.since a.fails (drop a.since made) && false) h in
     let (are, never) = and_parts (are_armed a.since a.fails (drop a.since made)) false rest in
     false≢true never
+
+-- what a machine was told is something
+pub told_some : (armed : Armed) (s : MemSite) → IsToldOf armed s → IsTold s
+told_some armed s told = (record { since = length (calls_in s.device); fails = fails_of (length (calls_in s.device)) armed }, told)
 
 -- One that was told something hasn't stopped, and its links hold.
 pub told_ready : LinksHold → (s : MemSite) → IsTold s → IsReady s

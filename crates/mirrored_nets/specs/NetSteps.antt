@@ -10,10 +10,13 @@ use Rattle.memory_net.specs.Mails.{Mail, mail_of}
 use Rattle.memory_net.specs.declared.host.Host.{Host}
 use Rattle.node_at.specs.declared.node.Node.{Node}
 use Rattle.site_memory.specs.declared.machine.MemSite.{MemSite}
+use Rattle.site_model.specs.Told.{Made}
 use Rattle.mirrored_nets.specs.Answered.{HasEffects, IsAnswered, RefusesAlike}
 use Rattle.mirrored_nets.specs.Goings.{IsBrought, IsNothing, IsSet, WentDown, ms_of}
+use Rattle.mirrored_nets.specs.Kept.{kept_at}
 use Rattle.mirrored_nets.specs.Seen.{Seen}
 use Rattle.mirrored_nets.specs.Started.{Started}
+use Rattle.mirrored_nets.specs.StruckTurns.{IsToldOf}
 use Rattle.mirrored_nets.specs.Took.{HasRoom, TookRequest, TookTurn}
 use Rattle.mirrored_nets.specs.declared.came.Came.{Came}
 use Rattle.mirrored_nets.specs.declared.came.Came.TheVariants as cames
@@ -32,20 +35,20 @@ abbrev pub IsGiven : Input → List ℕ → List ℕ → Type 0
 IsGiven Raw raw bytes = bytes ≡ raw
 IsGiven other raw bytes = Unit {0}
 
--- The fault that took a node down is that of the armed call: a stop left what that says.
-abbrev pub IsCutBy : Armed → Came → Type 0
-IsCutBy armed cames.Stays = Unit {0}
-IsCutBy armed (cames.Falls kept choice) = (k : ℕ) × (armed ≡ calls.Stop k choice)
-IsCutBy armed cames.Halts = (k : ℕ) × (armed ≡ calls.Fail k)
+-- The fault that took a node down is that of the armed call: a stop at that one of these left what it says.
+abbrev pub IsCutBy : Armed → List Made → Came → Type 0
+IsCutBy armed made cames.Stays = Unit {0}
+IsCutBy armed made (cames.Falls kept choice) = (k : ℕ) × (armed ≡ calls.Stop k choice) × (kept ≡ kept_at made k choice)
+IsCutBy armed made cames.Halts = (k : ℕ) × (armed ≡ calls.Fail k)
 
 abbrev pub TookTurnBy : Armed → (i count lines : ℕ) → List ℕ → Node → MemSite → Host → List Mail → List Mail → List Bool → Option ℕ → Type 0
-TookTurnBy armed i count lines bytes n old new mails more fates until = (took : TookTurn i count lines bytes n old new mails more fates until) × IsCutBy armed took.came
+TookTurnBy armed i count lines bytes n old new mails more fates until = (took : TookTurn i count lines bytes n old new mails more fates until) × IsCutBy armed took.made took.came
 
 abbrev pub TookRequestBy : Armed → (i count : ℕ) → Local → Node → MemSite → Host → List Mail → List Mail → List Bool → Option ℕ → Type 0
-TookRequestBy armed i count request n old new mails more fates until = (took : TookRequest i count request n old new mails more fates until) × IsCutBy armed took.came
+TookRequestBy armed i count request n old new mails more fates until = (took : TookRequest i count request n old new mails more fates until) × IsCutBy armed took.made took.came
 
 -- A node that is up took one turn: of a connection that brought what the event does, where that is raw bytes those that are given, when its clock
--- showed that time. Its posts are the next letters, and nothing else changed.
+-- showed that time, on a machine that was told which call of it is to fail. Its posts are the next letters, and nothing else changed.
 pub record TurnsNode (armed : Armed) (i : ℕ) (input : Input) (fates : List Bool) (until : Option ℕ) (raw : List ℕ) (old new : Seen) : Type 0 where
   pub host : Host
   pub here : nth i old.hosts ≡ Some host
@@ -59,9 +62,10 @@ pub record TurnsNode (armed : Armed) (i : ℕ) (input : Input) (fates : List Boo
   pub given : IsGiven input raw bytes
   pub machine : MemSite
   pub set : IsSet (clock + ms_of input) host.site machine
+  pub told : IsToldOf armed machine
   pub behind : Host
   pub took : TookTurn i (length old.hosts) lines bytes node machine behind (map mail_of old.letters) (map mail_of new.letters) fates until
-  pub cut : IsCutBy armed took.came
+  pub cut : IsCutBy armed took.made took.came
   pub hosts : new.hosts ≡ put_nth i behind old.hosts
   pub clocks : new.clocks ≡ put_nth i (clock + ms_of input) old.clocks
 
@@ -76,9 +80,10 @@ pub record AsksNode (armed : Armed) (i : ℕ) (request : Local) (fates : List Bo
   pub named : IsExampleRequest request
   pub machine : MemSite
   pub set : IsSet clock host.site machine
+  pub told : IsToldOf armed machine
   pub behind : Host
   pub took : TookRequest i (length old.hosts) request node machine behind (map mail_of old.letters) (map mail_of new.letters) fates until
-  pub cut : IsCutBy armed took.came
+  pub cut : IsCutBy armed took.made took.came
   pub hosts : new.hosts ≡ put_nth i behind old.hosts
   pub clocks : new.clocks ≡ old.clocks
 
@@ -93,7 +98,7 @@ pub record CrashesNode (i : ℕ) (old new : Seen) : Type 0 where
   pub are : new ≡ record old { hosts = put_nth i behind old.hosts }
 
 -- A node that is down was started on its machine, whose files have room.
-pub record StartsNode (i : ℕ) (landed stop : Bool) (old new : Seen) : Type 0 where
+pub record StartsNode (armed : Armed) (i : ℕ) (landed stop : Bool) (old new : Seen) : Type 0 where
   pub host : Host
   pub here : nth i old.hosts ≡ Some host
   pub down : host.node ≡ None
@@ -101,7 +106,7 @@ pub record StartsNode (i : ℕ) (landed stop : Bool) (old new : Seen) : Type 0 w
   pub clock : ℕ
   pub time : nth i old.clocks ≡ Some clock
   pub behind : Host
-  pub started : Started (example_base i) clock landed stop host.site behind
+  pub started : Started armed (example_base i) clock landed stop host.site behind
   pub are : new ≡ record old { hosts = put_nth i behind old.hosts }
 
 -- which call of its machine is armed
@@ -109,7 +114,7 @@ abbrev pub MovesNode : Armed → WorldEvent → List ℕ → Seen → Seen → T
 MovesNode armed (Turn i input fates until) raw old new = TurnsNode armed i input fates until raw old new
 MovesNode armed (Ask i request fates until) raw old new = AsksNode armed i request fates until old new
 MovesNode armed (Crash i) raw old new = CrashesNode i old new
-MovesNode armed (Up i landed stop) raw old new = StartsNode i landed stop old new
+MovesNode armed (Up i landed stop) raw old new = StartsNode armed i landed stop old new
 
 -- At a node that is down, or up where it is to start, nothing was done.
 pub record RestsNode (e : WorldEvent) (old new : Seen) : Type 0 where

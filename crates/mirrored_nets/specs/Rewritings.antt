@@ -46,7 +46,7 @@ pub record RewritesNode (i : ℕ) (input : Input) (fates : List Bool) (until : O
   pub given : IsGiven input raw bytes
   pub machine : MemSite
   pub set : IsSet (clock + ms_of input) host.site machine
-  pub told : IsTold machine
+  pub told : IsToldOf (call_of (Some a)) machine
   pub behind : Host
   pub took : TookAnew i (length old.hosts) lines bytes node machine behind (map mail_of old.letters) (map mail_of new.letters) fates until a call
   pub hosts : new.hosts ≡ put_nth i behind old.hosts

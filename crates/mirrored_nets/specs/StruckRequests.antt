@@ -4,6 +4,7 @@ use Rattle.armed_calls.specs.declared.fault.Armed.{Armed as Known}
 use Rattle.armed_calls.specs.declared.fault.Fault.TheVariants as faults
 use Rattle.at_base.specs.declared.event.Local.{Local}
 use Rattle.at_model.specs.World.{World, Ask, nth}
+use Rattle.followed_files.specs.Follows.{choice_of}
 use Rattle.memory_net.specs.Calls.{Requests}
 use Rattle.memory_net.specs.Closed.{IsExampleRequest}
 use Rattle.memory_net.specs.Mails.{Mail}
@@ -15,7 +16,7 @@ use Rattle.possible_events.specs.PossibleEvents.{Strikes}
 use Rattle.schedules.specs.declared.line.Leaves.{Leaves}
 use Rattle.site_memory.specs.declared.machine.MemSite.{MemSite}
 use Rattle.site_model.specs.Told.{Made}
-use Rattle.mirrored_nets.specs.ArmedCalls.{call_of, choice_of}
+use Rattle.mirrored_nets.specs.ArmedCalls.{call_of}
 use Rattle.mirrored_nets.specs.Fates.{AllDone, AreAsked}
 use Rattle.mirrored_nets.specs.Goings.{IsSet}
 use Rattle.mirrored_nets.specs.Mirrors.{Mirrors}

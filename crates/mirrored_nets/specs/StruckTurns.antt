@@ -3,6 +3,7 @@ use Rattle.std.specs.Prelude.{ℕ, List, [], ◌+◌, ◌≡◌, ◌≤◌, Bool
 use Rattle.armed_calls.specs.declared.fault.Armed.{Armed as Known}
 use Rattle.armed_calls.specs.declared.fault.Fault.TheVariants as faults
 use Rattle.at_model.specs.World.{Input, World, Turn, nth}
+use Rattle.followed_files.specs.Follows.{choice_of}
 use Rattle.memory_net.specs.Calls.{Turns}
 use Rattle.memory_net.specs.Mails.{Mail}
 use Rattle.memory_net.specs.declared.host.Host.{Host}
@@ -17,7 +18,7 @@ use Rattle.site_memory.specs.Sites.{told_of}
 use Rattle.site_memory.specs.declared.arm.Choice.{Choice}
 use Rattle.site_memory.specs.declared.machine.MemSite.{MemSite}
 use Rattle.site_model.specs.Told.{Made}
-use Rattle.mirrored_nets.specs.ArmedCalls.{call_of, choice_of}
+use Rattle.mirrored_nets.specs.ArmedCalls.{call_of}
 use Rattle.mirrored_nets.specs.Fates.{AllDone, AreAsked}
 use Rattle.mirrored_nets.specs.Goings.{IsBrought, IsSet, ms_of}
 use Rattle.mirrored_nets.specs.Mirrors.{Mirrors}

@@ -4,6 +4,7 @@ use Rattle.armed_calls.specs.declared.fault.Armed.{Armed as Known}
 use Rattle.armed_calls.specs.declared.fault.Fault.{Fault}
 use Rattle.armed_calls.specs.declared.fault.Fault.TheVariants as faults
 use Rattle.fated_walks.specs.Fated.{IsBeyond, StartsWith}
+use Rattle.followed_files.specs.Follows.{choice_of}
 use Rattle.live_files.specs.Rewritings.{failure_halts}
 use Rattle.memory_net.specs.Calls.{Turns}
 use Rattle.memory_net.specs.Mails.{Mail, mails_in}
@@ -12,7 +13,6 @@ use Rattle.node_at.specs.declared.node.Node.{Node}
 use Rattle.node_at.specs.declared.turn.Turned.{Turned}
 use Rattle.site_memory.specs.declared.machine.MemSite.{MemSite}
 use Rattle.site_model.specs.Told.{Made, sent_by}
-use Rattle.mirrored_nets.specs.ArmedCalls.{choice_of}
 use Rattle.mirrored_nets.specs.Fates.{AllDone, anew_of, fates_in}
 use Rattle.mirrored_nets.specs.Kept.{is_write, kept_at}
 use Rattle.mirrored_nets.specs.Took.{Adds, EndsSo, HasRoom, IsTriedLine, LeftSo, kept_of}

@@ -1,7 +1,8 @@
 //! The call of a node that a schedule arms, as that of its machine.
 
 ghost use Rattle.std.specs.Prelude.{◌≡◌};
-ghost use Rattle.mirrored_nets.specs.ArmedCalls.{call_of, choice_of};
+ghost use Rattle.followed_files.specs.Follows.{choice_of};
+ghost use Rattle.mirrored_nets.specs.ArmedCalls.{call_of};
 
 use crate::judged::Armed as Call;
 use armed_calls::fault::{Armed, Fault};

@@ -159,6 +159,26 @@ fn remembered(turned: Turned, node: &Node) -> Result<(), Unlike>
     }
 }
 
+/// The calls of a turn, for which there was memory, as many of them before its first step as that says.
+fn told<'a>(
+    lines: usize,
+    before: &Counts,
+    turned: Turned,
+    node: &Node,
+    site: &'a MemSite,
+) -> Result<&'a [Entry], Unlike>
+    ensures adds { IfOk result (λ calls. (old : MemSite) → IsCounted before.now old → Adds (mades calls.now) old site.now) }
+    ensures spoke { IfOk result (λ calls. IsTriedLine lines (take lines (mades calls.now)) × (lines ≤ 1)) }
+    ensures room { IfOk result (λ _. turned ≡ turneds.NoRoom → ⊥) }
+    ensures shrank { IfOk result (λ _. node.now.shrunk ≡ NoMemory → ⊥) }
+    ensures memory { IsntApart result }
+{
+    remembered(turned, node)?;
+    let calls = made_since(before, site)?;
+    spoke(lines, calls)?;
+    Ok(calls)
+}
+
 /// Whether a turn ended as that says.
 fn ends(came: Came, turned: Turned) -> Result<(), Unlike>
     ensures ends { IfOk result (λ _. EndsSo came turned) }
@@ -288,9 +308,7 @@ pub(crate) fn take(
     let Ok(turned) = turn(alloc, &mut after, &mut machine, bytes) else {
         return Err(Unlike::NoMemory);
     };
-    let calls = made_since(&before, &machine)?;
-    remembered(turned, &after)?;
-    spoke(lines, calls)?;
+    let calls = told(lines, &before, turned, &after, &machine)?;
     let came = judged(lines, calls, armed, fates, until)?;
     ends(came, turned)?;
     let Ok(()) = gather(alloc, number, count, kept_of(came, calls), letters) else {
@@ -326,9 +344,7 @@ pub(crate) fn rewrite(
     let Ok(turned) = turn(alloc, &mut after, &mut machine, bytes) else {
         return Err(Unlike::NoMemory);
     };
-    let calls = made_since(&before, &machine)?;
-    remembered(turned, &after)?;
-    spoke(lines, calls)?;
+    let calls = told(lines, &before, turned, &after, &machine)?;
     let came = judged_anew(lines, calls, armed, call, fates, until)?;
     ends(came, turned)?;
     let Ok(()) = gather(alloc, number, count, kept_of(came, calls), letters) else {

@@ -3,6 +3,7 @@
 ghost use Rattle.std.specs.Prelude.{ℕ, List, [], ◌∷◌, ◌+◌, ◌≡◌, ◌≤◌, Bool, IfOk, IfSome, None, Ok, Some, drop, true};
 ghost use Rattle.armed_calls.specs.declared.fault.Armed.{Armed as Known};
 ghost use Rattle.armed_calls.specs.declared.fault.Fault.TheVariants as faults;
+ghost use Rattle.followed_files.specs.Follows.{choice_of};
 ghost use Rattle.node_events.specs.NodeEvents.{one_if, struck};
 ghost use Rattle.schedules.specs.declared.line.Leaves.{Leaves};
 ghost use Rattle.site_memory.specs.Entries.{call_of, mades};
@@ -11,7 +12,6 @@ ghost use Rattle.site_model.specs.Told.{Call, failed};
 ghost use Rattle.site_model.specs.Told.Call.{Sync, Write};
 ghost use Rattle.torn_appends.specs.TornAppends.{gate_stands, stands_behind};
 ghost use Rattle.fated_walks.specs.Fated.{IsBeyond};
-ghost use Rattle.mirrored_nets.specs.ArmedCalls.{choice_of};
 ghost use Rattle.mirrored_nets.specs.Fates.{AllDone, AreAsked};
 ghost use Rattle.mirrored_nets.specs.Kept.{is_write, kept_at, writes_at};
 ghost use Rattle.mirrored_nets.specs.Struck.{ComesAt, IsUnhalted};
@@ -170,7 +170,7 @@ fn stopped(
     until: u64,
 ) -> Result<Came, Unlike>
     ensures comes { IfOk result (λ came. ComesTo came lines (mades calls.now) fates.now (Some until)) }
-    ensures cut { IfOk result (IsCutBy (Armed.Stop k choice)) }
+    ensures cut { IfOk result (IsCutBy (Armed.Stop k choice) (mades calls.now)) }
     ensures stops { (a : Known) (leaves : Leaves) → a.fault ≡ faults.Stop leaves → k ≡ lines + a.call → choice ≡ choice_of leaves → AllDone (mades calls.now)
         → ComesAt lines (mades calls.now) a fates.now (Some until) → IsUnhalted result }
     ensures unbegun { k ≤ lines → AllDone (mades calls.now) → fates.now ≡ [] → until ≡ 0 → IsUnhalted result }
@@ -232,7 +232,7 @@ fn sync_failed(calls: &[Entry], count: usize) -> bool
 fn halted(lines: usize, calls: &[Entry], fates: &Fates, until: u64) -> Result<Came, Unlike>
     requires { lines ≤ 1 }
     ensures comes { IfOk result (λ came. ComesTo came lines (mades calls.now) fates.now (Some until)) }
-    ensures cut { (k : ℕ) → IfOk result (IsCutBy (Armed.Fail k)) }
+    ensures cut { (k : ℕ) → IfOk result (IsCutBy (Armed.Fail k) (mades calls.now)) }
     ensures halts { HaltsSo lines (mades calls.now) fates.now (Some until) → result ≡ Ok Halts }
 {
     let Some(stands) = struck(fates, 0) else {
@@ -260,7 +260,7 @@ pub(crate) fn judged(
 ) -> Result<Came, Unlike>
     requires { lines ≤ 1 }
     ensures comes { IfOk result (λ came. ComesTo came lines (mades calls.now) fates.now until) }
-    ensures cut { IfOk result (IsCutBy armed) }
+    ensures cut { IfOk result (IsCutBy armed (mades calls.now)) }
     ensures whole { AreAsked lines (mades calls.now) fates.now until → result ≡ Ok Stays }
     ensures halts { (k : ℕ) → armed ≡ Armed.Fail k → HaltsSo lines (mades calls.now) fates.now until → result ≡ Ok Halts }
     ensures stops { (a : Known) (leaves : Leaves) → a.fault ≡ faults.Stop leaves → armed ≡ Armed.Stop (lines + a.call) (choice_of leaves) → AllDone (mades calls.now)

@@ -294,7 +294,7 @@ fn started(
     landed: bool,
     stop: bool,
 ) -> Result<Host, Unlike>
-    ensures started { IfOk result (λ host. Started base.now clock landed stop site host) }
+    ensures started { IfOk result (λ host. Started armed base.now clock landed stop site host) }
     ensures done { CanBegin site → landed ≡ true → stop ≡ false → IsntApart result }
     ensures struck { (a : Known) (last : ℕ) → armed ≡ call_of (Some a) → IsReady site → IsMarked last site → CanBegin site → 1 ≤ a.call → a.call ≤ start_calls → landed ≡ record_stands (a.call - 2) a.fault → IsntApart result }
 {

@@ -1,6 +1,6 @@
 //! Starts that meet a fault.
 
-ghost use Rattle.std.specs.Prelude.{ℕ, List, Ok, Some, Result, ◌-◌, ◌≡◌, ◌≤◌, IfOk, length};
+ghost use Rattle.std.specs.Prelude.{ℕ, List, Err, Ok, Some, Result, ◌-◌, ◌≡◌, ◌≤◌, IfOk, length};
 ghost use Rattle.armed_calls.specs.Faults.{record_stands, start_calls};
 ghost use Rattle.armed_calls.specs.declared.fault.Armed.{Armed as Known};
 ghost use Rattle.at_base.specs.declared.record.Record.{Record};
@@ -18,8 +18,9 @@ ghost use Rattle.mirrored_nets.specs.DueStarts.{CanBegin};
 ghost use Rattle.mirrored_nets.specs.Kept.{kept_at};
 ghost use Rattle.mirrored_nets.specs.StruckStarts.{IsBegun, IsMarked, IsStanding, may_fail};
 ghost use Rattle.mirrored_nets.specs.StruckTurns.{IsToldOf};
-ghost use Rattle.mirrored_nets.specs.TookStart.{HasLast, TookStart};
+ghost use Rattle.mirrored_nets.specs.TookStart.{HasLast, TookStartBy};
 ghost use Rattle.mirrored_nets.specs.Unarmed.{IsntApart};
+ghost use Rattle.mirrored_nets.specs.declared.fault.Unlike.TheVariants.{Apart};
 
 use crate::fault::Unlike;
 use crate::host::{counts_of, fallen_back, made_since, wanting};
@@ -116,6 +117,7 @@ fn begin_alone(alloc: Global, site: &mut MemSite, base: &Text, armed: Armed) -> 
 fn kept_behind(calls: &[Entry], armed: Armed) -> Result<(usize, Choice), Unlike>
     ensures fails { (k : ℕ) → armed ≡ Armed.Fail k → result ≡ Ok (length calls.now, Choice.Keep) }
     ensures stops { (k : ℕ) (choice : Chosen) → armed ≡ Armed.Stop k choice → result ≡ Ok (kept_at (mades calls.now) k choice, choice) }
+    ensures none { armed ≡ Armed.No → result ≡ Err Apart }
 {
     match armed {
         Armed::No => Err(Unlike::Apart),
@@ -134,7 +136,7 @@ pub(crate) fn start_struck(
     armed: Armed,
     landed: bool,
 ) -> Result<Host, Unlike>
-    ensures took { IfOk result (λ host. TookStart base.now site host landed) }
+    ensures took { IfOk result (λ host. TookStartBy armed base.now site host landed) }
     ensures struck { (a : Known) (last : ℕ) → armed ≡ call_of (Some a) → IsToldOf armed site → IsMarked last site → CanBegin site → 1 ≤ a.call → a.call ≤ start_calls → landed ≡ record_stands (a.call - 2) a.fault → IsntApart result }
 {
     starts_leave();

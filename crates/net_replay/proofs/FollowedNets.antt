@@ -22,7 +22,7 @@ use Rattle.settling.proofs.Places.{length_put}
 use Rattle.settling.proofs.Runs.{run_length}
 use Rattle.world_laws.specs.Events.{event_of}
 use Rattle.world_laws.specs.declared.event.WorldEvent.{WorldEvent}
-use Rattle.net_replay.specs.NetRuns.{FillsUp, IsNetRun, MirrorsAt, NetRun}
+use Rattle.net_replay.specs.NetRuns.{FillsUp, IsNetFull, IsNetRun, MirrorsAt, NetRun}
 
 -- the bytes that these events leave
 abbrev pub left_behind : List Event → List (List ℕ) → List (List ℕ)
@@ -194,7 +194,16 @@ met_none (suc place) [] e = refl
 met_none zero (m ∷ ms) e = absurd cc
 met_none (suc place) (m ∷ ms) e = met_none place ms e
 
--- a course of so many nodes, of which these are the events, the bytes and the calls
+-- A course of so many nodes, of which these are the events, the bytes and the calls; one of them comes to a journal that has no room.
+pub filled : (count : ℕ) (events : List WorldEvent) (raws : List (List ℕ)) (met : List Meeting) (c : Course) → c.world ≡ run_of (example_hosts count) (map event_of events) → map event_of events ≡ c.events → raws ≡ c.raws
+    → met ≡ c.met → (first : Seen) → IsUnstarted count first → FillsUp count first (opening (example_hosts count)) (map event_of events) raws met → IsNetFull (length c.world.nodes) c.events c.raws c.met
+filled count events raws met c world events_are raws_are met_are first unstarted fills =
+    subst (λ n. IsNetFull n c.events c.raws c.met) (sym (run_length (example_hosts count) c.world (record { events = map event_of events; is = world })))
+    (subst (λ l. IsNetFull count l c.raws c.met) events_are
+    (subst (λ rs. IsNetFull count (map event_of events) rs c.met) raws_are
+    (subst (λ ms. IsNetFull count (map event_of events) raws ms) met_are (record { first = first; unstarted = unstarted; fills = fills }))))
+
+-- one whose events can be done
 module _ (count : ℕ) (events : List WorldEvent) (raws : List (List ℕ)) (met : List Meeting) (c : Course) (world : c.world ≡ run_of (example_hosts count) (map event_of events))
     (events_are : map event_of events ≡ c.events) (raws_are : raws ≡ c.raws) (met_are : met ≡ c.met) (few : length events ≤ 4294967295)
     (all : length c.events ≤ 4294967295 → IsPossibleCourse (length c.world.nodes) c) where

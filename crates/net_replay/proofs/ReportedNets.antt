@@ -24,8 +24,8 @@ pub is_report : (options : Options) (all : List Line) (c : Course) (text : List 
     → IsNetRun (length c.world.nodes) c.world c.events c.raws c.met net → IsNetReport options all text net
 is_report options all c text net of is run = record { course = c; of = of; is = is; run = run }
 
-pub has_no_room : (options : Options) (all : List Line) (c : Course) (count : ℕ) → IsCourseOf options all c → IsNetFull count c.events c.raws c.met → HasNoRoom options all
-has_no_room options all c count of full = record { course = c; of = of; count = count; full = full }
+pub has_no_room : (options : Options) (all : List Line) (c : Course) → IsCourseOf options all c → IsNetFull (length c.world.nodes) c.events c.raws c.met → HasNoRoom options all
+has_no_room options all c of full = record { course = c; of = of; full = full }
 
 pub takes_too_many : (options : Options) (all : List Line) (draws : List (Option Drawn)) → AreDrawn all draws → HasTooManyEvents (course_with options.settle draws all)
     → TakesTooManyEvents options all

@@ -29,8 +29,7 @@ pub record IsNetReport (options : Options) (all : List Line) (text : List ℕ) (
 pub record HasNoRoom (options : Options) (all : List Line) : Type 0 where
   pub course : Course
   pub of : IsCourseOf options all course
-  pub count : ℕ
-  pub full : IsNetFull count course.events course.raws course.met
+  pub full : IsNetFull (length course.world.nodes) course.events course.raws course.met
 
 -- There is no report: what happens in it is more than a world takes.
 pub record TakesTooManyEvents (options : Options) (all : List Line) : Type 0 where

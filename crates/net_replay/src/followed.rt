@@ -97,7 +97,7 @@ fn follow_all(
 pub fn followed(alloc: Global, course: &Course) -> Result<Net, Fault>
     ensures run { (length course.now.events ≤ 4294967295 → IsPossibleCourse (length course.now.world.nodes) course.now)
         → IfOk result (IsNetRun (length course.now.world.nodes) course.now.world course.now.events course.now.raws course.now.met) }
-    ensures full { IfErr result (λ fault. fault ≡ Full → (count : ℕ) × IsNetFull count course.now.events course.now.raws course.now.met) }
+    ensures full { IfErr result (λ fault. fault ≡ Full → IsNetFull (length course.now.world.nodes) course.now.events course.now.raws course.now.met) }
     ensures done { (length course.now.events ≤ 4294967295 → IsPossibleCourse (length course.now.world.nodes) course.now)
         → IfErr result (λ fault. fault ≡ Apart → ⊥) }
 {

@@ -1,14 +1,16 @@
 -- Runs of which each event is possible where it comes, with one event more.
 use Rattle.std.proofs.Common.{ℕ, ◌+◌, ◌-◌, ◌<◌, ◌≤◌, ◌≡◌, refl, List, [], ◌∷◌, ◌++◌, length, drop, ap, ◌∙◌, sym, subst, arith, inl, inr, Bool, true, false}
-use Rattle.std.specs.Prelude.{Option, Some, None, nat_eq, option_map, if◌then◌else◌}
+use Rattle.std.specs.Prelude.{Option, Some, None, is_some, nat_eq, option_and_then, option_map, if◌then◌else◌}
 use Rattle.std.proofs.lemmas.List.{append-nil, append_assoc, length-append}
 use Rattle.armed_calls.specs.declared.fault.Armed.{Armed}
 use Rattle.armed_calls.specs.declared.meeting.Meeting.{Meeting}
 use Rattle.armed_calls.specs.declared.meeting.Meeting.TheVariants as meetings
 use Rattle.at_base.specs.declared.epr.Epr.{Epr}
 use Rattle.at_base.specs.declared.target.Target.{Target}
+use Rattle.at_model.specs.Book.{Book}
 use Rattle.at_model.specs.Views.{deliver_to, tick_at, up}
-use Rattle.at_model.specs.World.{Ask, Crash, Deliver, Posted, Raw, Tick, Turn, Up, World, WorldEvent, example_base, example_hosts, new_nodes, node_of, nth, opening, place_of, receiver_of, run_of, run_on, world_step}
+use Rattle.at_model.specs.World.{Ask, Crash, Deliver, Node, Posted, Raw, Tick, Turn, Up, World, WorldEvent, at_some_node, example_base, example_hosts, goes_down, lost_in, new_nodes, node_of, nth, on_book, opening, place_of, put_book, receiver_of, run_of, run_on, world_step}
+use Rattle.followed_events.specs.FollowedEvents.{is_up}
 use Rattle.followed_events.specs.Meetings.{ends_anew, events_by, file_at, files_behind, meetings_by, next_met, world_behind, worlds_behind}
 use Rattle.live_files.specs.LiveFiles.{LiveFile}
 use Rattle.model_laws.specs.Agreement.{IsIn}
@@ -18,6 +20,7 @@ use Rattle.model_laws.specs.Laws.{StepsKeepPlace}
 use Rattle.model_laws.specs.MadeIds.{MakesNoIdTwice}
 use Rattle.model_laws.specs.Order.{IdsRise}
 use Rattle.model_laws.proofs.Addresses.{place_is}
+use Rattle.model_laws.proofs.NodeLives.{put_this}
 use Rattle.possible_events.specs.BroughtBytes.{first_of, is_raw}
 use Rattle.possible_events.specs.PossibleEvents.{ArePossible, CanCome, CanMeet, IsPossible, IsPossibleAnew, IsThere, one_call}
 use Rattle.replay_cmd.specs.ReportOf.{none_started}
@@ -27,7 +30,7 @@ use Rattle.settling.proofs.Places.{all_nth}
 use Rattle.settling.proofs.Runs.{run_is}
 use Rattle.world_laws.specs.Events.{ms_of}
 use Rattle.world_laws.specs.Moves.{ChangesByMoves, seen}
-use Rattle.world_laws.specs.Runs.{IsFit, IsNode}
+use Rattle.world_laws.specs.Runs.{IsFit, IsNode, book_of}
 use Rattle.world_laws.proofs.RunNodes.{fit_after, opening_fits}
 use Rattle.possible_courses.proofs.Incarnations.{AreEarly, IsEarly, early_on, opening_early}
 
@@ -119,7 +122,7 @@ any_given : (count : ℕ) (w : World) (f : LiveFile) (e : WorldEvent) (r s : Lis
 any_given count w f e r s meetings.Nothing none h = any_bytes count w e r s None none h
 any_given count w f e r s (meetings.Call a) none h = any_bytes count w e r s (Some a) none h
 any_given count w f e r s (meetings.Anew a call) none h = any_anew count w f e r s a call none h
-any_given count w f e r s meetings.Ended none h = tt
+any_given count w f e r s meetings.Ended none h = h
 
 -- what is followed behind events that met these
 abbrev pub files_after : World → List LiveFile → List WorldEvent → List Meeting → List LiveFile
@@ -165,6 +168,24 @@ files_append w files [] e [] m long = refl
 files_append w files [] e (n ∷ ms) m long = absurd (omega (arith, long))
 files_append w files (x ∷ es) e [] m long = absurd (omega (arith, long))
 files_append w files (x ∷ es) e (n ∷ ms) m long = files_append (world_behind n w x) (files_behind n w x files) es e ms m (omega (arith, long))
+
+-- a node that crashed is down
+crashed_down : (w : World) (n : ℕ) → is_up (world_step w (Crash n)) n ≡ false
+unfolding world_step
+crashed_down w n = by (nth n w.nodes) refl
+  where
+    up_as : Option Node → Bool
+    up_as o = is_some (option_and_then book_of o)
+
+    by_book : (x : Node) (b : Option Book) → nth n w.nodes ≡ Some x → x.book ≡ b → is_up (on_book b (λ c. goes_down n c w) w) n ≡ false
+    by_book x None e f = ap up_as e ∙ ap is_some f
+    by_book x (Some b) e f =
+        ap (λ o. is_up (put_book n None (record w { happened = w.happened ++ lost_in n b }) o) n) e
+        ∙ ap up_as (put_this w.nodes n x (record x { book = None }) e)
+
+    by : (o : Option Node) → nth n w.nodes ≡ o → is_up (at_some_node (Crash n) o w) n ≡ false
+    by None e = ap up_as e
+    by (Some x) e = by_book x x.book e refl
 
 -- What the laws of the model say.
 pub record ModelLaws : Type 0 where
@@ -273,7 +294,8 @@ module _ (count : ℕ) where
                 possible =
                     subst (λ all. ArePossible count (opening (example_hosts count)) none_started ((es ++ e ∷ []) ++ c ∷ []) all ((met ++ m ∷ []) ++ meetings.Ended ∷ [])) (append-nil (raws ++ given))
                     (append_possible count (opening (example_hosts count)) none_started (es ++ e ∷ []) c (raws ++ given) [] (met ++ m ∷ []) meetings.Ended
-                    (omega (arith, r.bytes, brings, raw_more es e, length-append raws given)) long first tt);
+                    (omega (arith, r.bytes, brings, raw_more es e, length-append raws given)) long first
+                    (subst (λ v. is_up v (node_of e) ≡ false) (sym (behind ∙ same)) (crashed_down (world_step w e) (node_of e))));
                 fit =
                     subst (λ k. IsFit k (seen (world_step (world_step w e) c))) (omega (arith, last))
                     (subst (IsFit (length es + 1 + 1)) (sym (laws.moves.moved (world_step w e) c)) (fit_after laws.ids c (length es + 1) (seen (world_step w e)) (omega arith) fit));

@@ -135,12 +135,19 @@ IsPossibleAnew count w f (Ask n request fates until) raw a call = ⊥
 IsPossibleAnew count w f (Crash n) raw a call = ⊥
 IsPossibleAnew count w f (Up n landed stop) raw a call = ⊥
 
+-- A crash that was done with the event before, behind which its node is down.
+abbrev pub WasDone : World → WorldEvent → Type 0
+WasDone w (Turn n input fates until) = ⊥
+WasDone w (Ask n request fates until) = ⊥
+WasDone w (Crash n) = is_up w n ≡ false
+WasDone w (Up n landed stop) = ⊥
+
 -- one that meets this, at a node of whose journal that is followed
 abbrev pub CanMeet : ℕ → World → LiveFile → WorldEvent → List ℕ → Meeting → Type 0
 CanMeet count w f e raw meetings.Nothing = IsPossible count w e raw None
 CanMeet count w f e raw (meetings.Call a) = IsPossible count w e raw (Some a)
 CanMeet count w f e raw (meetings.Anew a call) = IsPossibleAnew count w f e raw a call
-CanMeet count w f e raw meetings.Ended = Unit {0}
+CanMeet count w f e raw meetings.Ended = WasDone w e
 
 -- Each of these is possible where it comes, from that world on; the bytes that they bring are these, in order, and they meet these calls.
 abbrev pub ArePossible : ℕ → World → List LiveFile → List WorldEvent → List (List ℕ) → List Meeting → Type 0

@@ -13,14 +13,14 @@ returns-clause-took c =
     (λ host left.
     took_anew c.args.number c.args.count c.args.lines _ c.args.bytes.now c.args.node _ c.args.site _ host _ _ c.args.fates.now c.args.until c.args.armed c.args.call c.in-Ok.turned c.in_ok-came.came c.in_ok-calls.calls.now
     c.kept_of.result.now c.requires.room c.in-Ok.ensures c.counts_of-before.ensures.calls (c.in_ok-calls.ensures.adds c.args.site c.counts_of-before.ensures) c.in_ok-ends.ensures.ends c.in_ok-came.ensures.comes
-    c.in_ok-came.ensures.asked left (c.kept_of.ensures, c.in-Ok-gather.ensures) c.in_ok-spoke.ensures.spoke.0)
+    c.in_ok-came.ensures.asked left (c.kept_of.ensures, c.in-Ok-gather.ensures) c.in_ok-calls.ensures.spoke.0)
 
 pub returns-in_err-came-clause-possible : goal.returns-in_err-came-clause-possible
 returns-in_err-came-clause-possible c = λ possible.
     let goes : IsAskedWhole c.args.lines (mades c.in_ok-calls.calls.now) c.args.fates.now c.args.until × CallGoes c.args.armed.fault c.args.armed.call c.args.call c.args.lines (mades c.in_ok-calls.calls.now) c.in-Ok.turned =
     c.struck_rewritings.ensures c.args.number c.args.count c.args.lines c.args.bytes.now c.args.node c.turn.new.node c.args.site c.turn.new.site c.args.armed c.args.call c.args.fates.now c.args.until c.in-Ok.turned
-    (mades c.in_ok-calls.calls.now) possible c.requires.room c.in-Ok.ensures (c.in_ok-calls.ensures.adds c.args.site c.counts_of-before.ensures) c.in_ok-remembered.ensures.room c.in_ok-remembered.ensures.shrank
-    c.in_ok-spoke.ensures.spoke.0 in
+    (mades c.in_ok-calls.calls.now) possible c.requires.room c.in-Ok.ensures (c.in_ok-calls.ensures.adds c.args.site c.counts_of-before.ensures) c.in_ok-calls.ensures.room c.in_ok-calls.ensures.shrank
+    c.in_ok-calls.ensures.spoke.0 in
     let came : CameSo c.judged_anew.result c.in-Ok.turned =
     anew_came c.args.lines (mades c.in_ok-calls.calls.now) c.args.armed c.args.call c.args.fates.now c.args.until c.in-Ok.turned c.judged_anew.result goes.0 c.judged_anew.ensures.whole c.judged_anew.ensures.halts
     c.judged_anew.ensures.stops goes.1 in
@@ -30,8 +30,8 @@ pub returns-in_err-ends-clause-possible : goal.returns-in_err-ends-clause-possib
 returns-in_err-ends-clause-possible c = λ possible.
     let goes : IsAskedWhole c.args.lines (mades c.in_ok-calls.calls.now) c.args.fates.now c.args.until × CallGoes c.args.armed.fault c.args.armed.call c.args.call c.args.lines (mades c.in_ok-calls.calls.now) c.in-Ok.turned =
     c.struck_rewritings.ensures c.args.number c.args.count c.args.lines c.args.bytes.now c.args.node c.turn.new.node c.args.site c.turn.new.site c.args.armed c.args.call c.args.fates.now c.args.until c.in-Ok.turned
-    (mades c.in_ok-calls.calls.now) possible c.requires.room c.in-Ok.ensures (c.in_ok-calls.ensures.adds c.args.site c.counts_of-before.ensures) c.in_ok-remembered.ensures.room c.in_ok-remembered.ensures.shrank
-    c.in_ok-spoke.ensures.spoke.0 in
+    (mades c.in_ok-calls.calls.now) possible c.requires.room c.in-Ok.ensures (c.in_ok-calls.ensures.adds c.args.site c.counts_of-before.ensures) c.in_ok-calls.ensures.room c.in_ok-calls.ensures.shrank
+    c.in_ok-calls.ensures.spoke.0 in
     let came : CameSo c.judged_anew.result c.in-Ok.turned =
     anew_came c.args.lines (mades c.in_ok-calls.calls.now) c.args.armed c.args.call c.args.fates.now c.args.until c.in-Ok.turned c.judged_anew.result goes.0 c.judged_anew.ensures.whole c.judged_anew.ensures.halts
     c.judged_anew.ensures.stops goes.1 in

@@ -1,7 +1,7 @@
 use Rattle.std.specs.Prelude.{IfOk}
 use Rattle.std.proofs.Common.{◌≡◌, ◌∙◌, ◌+◌, subst, sym}
+use Rattle.followed_files.specs.Follows.{choice_of}
 use Rattle.site_memory.specs.Entries.{mades}
-use Rattle.mirrored_nets.specs.ArmedCalls.{choice_of}
 use Rattle.mirrored_nets.specs.NetSteps.{IsCutBy}
 use Rattle.mirrored_nets.specs.Struck.{ComesAt}
 use Rattle.mirrored_nets.specs.declared.judged.Armed.TheVariants as calls
@@ -20,4 +20,4 @@ returns-in-Some-Stop-clause-stops c = λ a left fault armed all at.
     c.stopped.ensures.stops a left fault call choice all (subst (ComesAt c.args.lines (mades c.args.calls.now) a c.args.fates.now) c.in-Some-Stop.is-0 at)
 
 pub returns-in-Some-Fail-clause-cut : goal.returns-in-Some-Fail-clause-cut
-returns-in-Some-Fail-clause-cut c = subst (λ a. IfOk c.halted.result (IsCutBy a)) (sym c.in-Some-Fail.is-1) (c.halted.ensures.cut c.in-Some-Fail.field-0-1)
+returns-in-Some-Fail-clause-cut c = subst (λ a. IfOk c.halted.result (IsCutBy a (mades c.args.calls.now))) (sym c.in-Some-Fail.is-1) (c.halted.ensures.cut c.in-Some-Fail.field-0-1)

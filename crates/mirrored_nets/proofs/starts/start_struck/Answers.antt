@@ -4,26 +4,34 @@ use Rattle.site_memory.specs.declared.machine.MemSite.{MemSite}
 use Rattle.mirrored_nets.specs.Took.{FellBack}
 use Rattle.mirrored_nets.specs.TookStart.{HasLast}
 use Rattle.mirrored_nets.proofs.HostSteps.{not_err, passed_up}
-use Rattle.mirrored_nets.proofs.StartFaults.{KeptSo, fell_same, kept_all, kept_is, kept_so, marked_stands, may_be_struck, not_other, same_test}
+use Rattle.mirrored_nets.proofs.StartFaults.{KeptSo, cut_so, fell_same, kept_all, kept_is, kept_so, marked_stands, may_be_struck, not_other, same_test}
 use Rattle.mirrored_nets.proofs.starts.start_struck.Goals as goal
 
 pub returns-clause-took : goal.returns-clause-took
 returns-clause-took c =
     let site = sym c.of.ensures.1 in
     record {
-      result = c.in_ok-begin_alone.ensures.begun.0;
-      site = c.begin_alone.new.site;
-      begins = c.in_ok-begin_alone.ensures.begun.1;
-      may = may_be_struck c.args.armed c.in_ok-begin_alone.ensures.begun.0 c.in_ok-begin_alone.ensures.begun.2;
-      kept = c.in_ok-kept.kept;
-      choice = c.in_ok-kept.choice;
-      down = c.of.ensures.0;
-      fell = subst (λ (s : MemSite). FellBack c.args.site c.begin_alone.new.site c.in_ok-kept.kept c.in_ok-kept.choice s) site (c.in_ok-left.ensures.fell c.args.site c.counts_of-counts.ensures.calls);
-      before = c.in_ok-before.before;
-      was = c.in_ok-before.ensures.last;
-      behind = c.in_ok-behind.behind;
-      is = subst (λ (s : MemSite). HasLast c.in_ok-behind.behind s) site c.in_ok-behind.ensures.last;
-      landed_is = same_test c.args.landed (nat_lt c.in_ok-before.before c.in_ok-behind.behind) c.if-landed-before.false;
+      took =
+          record {
+            result = c.in_ok-begin_alone.ensures.begun.0;
+            site = c.begin_alone.new.site;
+            begins = c.in_ok-begin_alone.ensures.begun.1;
+            may = may_be_struck c.args.armed c.in_ok-begin_alone.ensures.begun.0 c.in_ok-begin_alone.ensures.begun.2;
+            kept = c.in_ok-kept.kept;
+            choice = c.in_ok-kept.choice;
+            down = c.of.ensures.0;
+            fell = subst (λ (s : MemSite). FellBack c.args.site c.begin_alone.new.site c.in_ok-kept.kept c.in_ok-kept.choice s) site (c.in_ok-left.ensures.fell c.args.site c.counts_of-counts.ensures.calls);
+            before = c.in_ok-before.before;
+            was = c.in_ok-before.ensures.last;
+            behind = c.in_ok-behind.behind;
+            is = subst (λ (s : MemSite). HasLast c.in_ok-behind.behind s) site c.in_ok-behind.ensures.last;
+            landed_is = same_test c.args.landed (nat_lt c.in_ok-before.before c.in_ok-behind.behind) c.if-landed-before.false;
+          };
+      made = mades c.in_ok-calls.calls.now;
+      adds = c.in_ok-calls.ensures.adds c.args.site c.counts_of-counts.ensures;
+      cut =
+          cut_so c.args.armed (mades c.in_ok-calls.calls.now) c.kept_behind.result c.in_ok-kept.kept c.in_ok-kept.choice c.in_ok-kept.was
+          (kept_all c.in_ok-calls.calls.now c.args.armed c.kept_behind.result c.kept_behind.ensures.fails) c.kept_behind.ensures.stops c.kept_behind.ensures.none;
     }
 
 pub returns-in_err-before-clause-struck : goal.returns-in_err-before-clause-struck

@@ -40,7 +40,8 @@ returns-clause-step c =
     (asks c.args.number c.self.inside.hosts.items c.put_host.new.hosts.items c.self.inside.clocks.items c.self.inside.letters.items there.0 c.in_ok-host.host there.1
     (c.in_ok-put_host.ensures.put ∙ c.in_ok-node.ensures.place c.in_ok-host.host) c.args.armed c.in_ok-node.node c.in_ok-clock.clock c.in_ok-count.count c.args.local.now c.in_ok-node.site c.set.result
     c.request.new.letters.items c.args.fates.now c.args.until there.2 clock (c.in_ok-count.ensures.count ∙ ap (λ (l : List Host). length l) c.as_slice-2.ensures.value)
-    (c.in-Ok.ensures.is c.if-not-named.false) there.3 c.set.ensures.set c.in_ok-host.ensures.took)
+    (c.in-Ok.ensures.is c.if-not-named.false) there.3 c.set.ensures.set
+    (c.set.ensures.told (there_ready c.args.number c.self.inside.hosts.items there.0 c.in_ok-node.site c.self.invariant there.1 there.3)) c.in_ok-host.ensures.took)
 
 pub returns-then-not-named-clause-possible : goal.returns-then-not-named-clause-possible
 returns-then-not-named-clause-possible c = λ raw possible.

@@ -53,7 +53,7 @@ returns-clause-step c =
     (c.in_ok-put_host.ensures.put ∙ c.in_ok-node.ensures.place c.in_ok-host.host) c.in_ok-node.node c.in_ok-clock.clock c.in_ok-count.count c.in-Some.now c.in_ok-brought.brought.lines (input_of c.args.input)
     c.in_ok-brought.brought.bytes.items c.args.raw.now c.in_ok-node.site c.set.result c.put_clock.new.clocks.items c.rewrite.new.letters.items c.args.fates.now c.args.until c.args.armed c.args.call there.2 clock
     (c.in_ok-count.ensures.count ∙ ap (λ (l : List Host). length l) c.as_slice.ensures.value) brought c.in_ok-brought.ensures.given later there.3 c.set.ensures.set
-    (c.set.ensures.set.told (there_ready c.args.number c.self.inside.hosts.items there.0 c.in_ok-node.site c.self.invariant there.1 there.3)) took c.in_ok-put_clock.ensures.put)
+    (subst (λ z. IsToldOf z c.set.result) c.call_of.ensures (c.set.ensures.told (there_ready c.args.number c.self.inside.hosts.items there.0 c.in_ok-node.site c.self.invariant there.1 there.3))) took c.in_ok-put_clock.ensures.put)
 
 pub returns-in_default-clause-possible : goal.returns-in_default-clause-possible
 returns-in_default-clause-possible c = λ possible.

@@ -25,7 +25,7 @@ returns-clause-step c =
 
 pub invariant_of-result : goal.invariant_of-result
 invariant_of-result c =
-    serve_on c.args.number c.in_ok-host.host c.self.inside.hosts.items c.put_host.new.hosts.items c.self.invariant (started_serves c.links_hold.ensures c.in-Ok.base c.in_ok-clock.clock c.args.landed c.args.stop _ c.in_ok-host.host
+    serve_on c.args.number c.in_ok-host.host c.self.inside.hosts.items c.put_host.new.hosts.items c.self.invariant (started_serves c.links_hold.ensures c.args.armed c.in-Ok.base c.in_ok-clock.clock c.args.landed c.args.stop _ c.in_ok-host.host
     (there_ready c.args.number c.self.inside.hosts.items c.in_ok-taken.field-0 c.into_parts-node.result.1 c.self.invariant c.in_ok-taken.ensures.here c.into_parts-node.ensures.1) c.in_ok-host.ensures.started)
     (c.in_ok-put_host.ensures.put ∙ c.in_ok-taken.ensures.place c.in_ok-host.host)
 
