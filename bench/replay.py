@@ -68,7 +68,7 @@ def main():
         ("100 transactions, 3 nodes", schedule(100, 3, 10_000)),
         ("1,000 transactions, 3 nodes", schedule(1_000, 3, 10_000)),
         ("10,000 lines, 8 nodes", schedule(1_667, 8, 10_000)),
-        ("250 at once, 8 nodes", at_once(62)),
+        ("100 at once, 8 nodes", at_once(25)),
         ("1,000 at once, 8 nodes", at_once(250)),
     ]:
         times = [run(text) for _ in range(rounds)]
