@@ -101,39 +101,42 @@ fn a_journal_is_written_anew(rt: HostRuntime) -> Result<(), Fail> {
 }
 
 /// Faults at the calls by which the journal of node 2 is written anew, in the commit of the eleventh transaction, at whose 18th vote it passes
-/// 65,536 bytes: such a turn has six calls before them, and one behind a start 24. The first five calls fail, one in each turn, and then the
-/// node stops at one in each; at the last stop the new journal stands, so that the call that is armed then comes in the next turn alone.
+/// 65,536 bytes. The node stops at the first, by which the transaction is lost; the first five fail, one in each turn, and the last of these halts it;
+/// it stops at the second to the sixth; and the sixth fails, behind which the new journal stands, so that the call that is armed then comes in the
+/// next turn alone. The turn of a vote has six calls before them, one behind a start 20, and the others two.
 const REWRITINGS: &str = "\
 flush 18\n\
-fail 2 7\nflush 1\n\
-fail 2 8\nflush 1\n\
-fail 2 8\nflush 1\n\
-fail 2 9\nflush 1\n\
-fail 2 10\nflush 1\nup 2\n\
-stop 2 25 keep\nflush 1\nup 2\n\
-stop 2 26 drop\nflush 1\nup 2\n\
-stop 2 27 fill 1\nflush 1\nup 2\n\
-stop 2 28 drop\nflush 1\nup 2\n\
-stop 2 29 fill 0\nflush 1\nup 2\n\
-stop 2 28 fill 1\nflush 1\nup 2\n\
-stop 2 25 keep\nflush 2\n\
+stop 2 7 drop\nflush 1\nup 2\n\
+fail 2 21\nflush 1\n\
+fail 2 4\nflush 1\n\
+fail 2 4\nflush 1\n\
+fail 2 5\nflush 1\n\
+fail 2 6\nflush 1\nup 2\n\
+stop 2 21 keep\nflush 1\nup 2\n\
+stop 2 22 drop\nflush 1\nup 2\n\
+stop 2 23 fill 1\nflush 1\nup 2\n\
+stop 2 24 drop\nflush 1\nup 2\n\
+stop 2 25 fill 0\nflush 1\nup 2\n\
+fail 2 25\nflush 1\nup 2\n\
+stop 2 21 keep\nflush 2\n\
 ";
 
 /// Lines of its report.
 const REWRITTEN: &[&str] = &[
-    "\ndeliver 5459 2 202\n",
+    "\ndeliver 5459 2 stopped\n",
     "\ndeliver 5460 2 202\n",
     "\ndeliver 5461 2 202\n",
     "\ndeliver 5462 2 202\n",
-    "\ndeliver 5463 2 halted\n",
-    "\ndeliver 5464 2 stopped\n",
+    "\ndeliver 5463 2 202\n",
+    "\ndeliver 5464 2 halted\n",
     "\ndeliver 5465 2 stopped\n",
     "\ndeliver 5466 2 stopped\n",
     "\ndeliver 5467 2 stopped\n",
     "\ndeliver 5468 2 stopped\n",
     "\ndeliver 5469 2 stopped\n",
-    "\ndeliver 5470 2 202\n",
-    "\ndeliver 5471 2 stopped\n",
+    "\ndeliver 5470 2 halted\n",
+    "\ndeliver 5471 2 202\n",
+    "\ndeliver 5472 2 stopped\n",
 ];
 
 fn rewritings(alloc: Global) -> Result<Vec<u8>, AllocError> {
