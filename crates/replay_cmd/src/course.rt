@@ -185,13 +185,12 @@ impl Course {
     /// Whether the first step of an event has a record; none where it takes no step.
     #[tactic(auto, using(crate::proofs::EventCounts::as_many))]
     pub(crate) fn first_records(
-        &mut self,
+        &self,
         alloc: Global,
         event: &WorldEvent,
     ) -> Result<Option<bool>, RunError>
-        ensures records { IfOk result (λ r. r ≡ first_records self.old.world (event_of event.now)) }
-        ensures same { self.new ≡ self.old }
-        ensures many { IfErr result (λ e. e ≡ TooManyEvents → 4294967295 ≤ length self.old.events) }
+        ensures records { IfOk result (λ r. r ≡ first_records self.now.world (event_of event.now)) }
+        ensures many { IfErr result (λ e. e ≡ TooManyEvents → 4294967295 ≤ length self.now.events) }
     {
         if self.world.events().len() >= MOST {
             return Err(RunError::TooManyEvents);

@@ -69,9 +69,8 @@ impl Course {
         ensures course { IfOk result (λ c. c ≡ comes_to (Some armed) drawn (event_of event) self) }
         ensures many { IfErr result (λ e. e ≡ TooManyEvents → HasTooManyEvents (comes_to (Some armed) drawn (event_of event) self)) }
     {
-        let mut course = self;
-        let first = course.first_records(alloc, &event)?;
-        course.meet_at(alloc, armed, first, drawn, event)
+        let first = self.first_records(alloc, &event)?;
+        self.meet_at(alloc, armed, first, drawn, event)
     }
 
     /// The armed call is the interim line of raw bytes that draw this status.

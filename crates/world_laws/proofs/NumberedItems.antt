@@ -53,12 +53,3 @@ put_back zero y xs e = absurd (e refl)
 put_back (suc n) y xs e =
     let same : suc n ≡ suc n - 1 + 1 = omega arith in
     ap (λ k. put_nth k y xs) same ∙ put_set (suc n - 1) y xs
-
--- an item put where it stands
-held : {A : Type 0} (y x : A) → Some y ≡ Some x → x ≡ y
-held y x h = cc
-
-pub set_same : {A : Type 0} (i : ℕ) (x : A) (xs : List A) → slice_get xs i ≡ Some x → slice_set xs i x ≡ xs
-set_same i x [] h = absurd cc
-set_same zero x (y ∷ ys) h = ap (λ z. z ∷ ys) (held y x h)
-set_same (suc i) x (y ∷ ys) h = ap (λ zs. y ∷ zs) (set_same i x ys h)

@@ -93,19 +93,17 @@ fn happen_at(
 }
 
 /// Whether the first step of an event at the node at this place has a record.
-#[tactic(auto, using(crate::proofs::NumberedItems::set_same))]
 fn records_in(
     alloc: Global,
-    nodes: &mut Vec<Node>,
+    nodes: &[Node],
     place: usize,
     event: &WorldEvent,
     posted: &[Posted],
 ) -> Result<Option<bool>, AllocError>
-    requires place { place < length nodes.old.items }
-    requires ready { (x : Known) → slice_get nodes.old.items place ≡ Some x → IsReady x }
-    ensures records { (x : Known) → slice_get nodes.old.items place ≡ Some x
+    requires place { place < length nodes.now }
+    requires ready { (x : Known) → slice_get nodes.now place ≡ Some x → IsReady x }
+    ensures { (x : Known) → slice_get nodes.now place ≡ Some x
         → IfOk result (λ r. r ≡ node_records (event_of event.now) posted.now x) }
-    ensures same { nodes.new.items ≡ nodes.old.items }
 {
     nodes[place].records(alloc, event, posted)
 }
@@ -113,17 +111,16 @@ fn records_in(
 /// Whether the first step of an event at the node of this number has a record; none where there is no such node.
 fn records_at(
     alloc: Global,
-    nodes: &mut Vec<Node>,
+    nodes: &[Node],
     number: u8,
     event: &WorldEvent,
     posted: &[Posted],
 ) -> Result<Option<bool>, AllocError>
-    requires { AreReady nodes.old.items }
-    ensures records { IfOk result
-        (λ r. r ≡ option_and_then (node_records (event_of event.now) posted.now) (nth number nodes.old.items)) }
-    ensures same { nodes.new.items ≡ nodes.old.items }
+    requires { AreReady nodes.now }
+    ensures { IfOk result
+        (λ r. r ≡ option_and_then (node_records (event_of event.now) posted.now) (nth number nodes.now)) }
 {
-    if number == 0 || nodes.as_slice().len() < number as usize {
+    if number == 0 || nodes.len() < number as usize {
         return Ok(None);
     }
     records_in(alloc, nodes, number as usize - 1, event, posted)
@@ -254,15 +251,14 @@ impl Scene {
     }
 
     /// Whether the first step of an event has a record; none where it takes no step.
-    pub fn records(&mut self, alloc: Global, event: &WorldEvent) -> Result<Option<bool>, AllocError>
-        requires { AreReady self.old.nodes }
-        ensures records { IfOk result
-            (λ r. r ≡ option_and_then (node_records (event_of event.now) self.old.posted) (nth (node_of (event_of event.now)) self.old.nodes)) }
-        ensures same { self.new ≡ self.old }
+    pub fn records(&self, alloc: Global, event: &WorldEvent) -> Result<Option<bool>, AllocError>
+        requires { AreReady self.now.nodes }
+        ensures { IfOk result
+            (λ r. r ≡ option_and_then (node_records (event_of event.now) self.now.posted) (nth (node_of (event_of event.now)) self.now.nodes)) }
     {
         records_at(
             alloc,
-            &mut self.nodes,
+            self.nodes.as_slice(),
             event.node(),
             event,
             self.posted.as_slice(),

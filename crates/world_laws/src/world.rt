@@ -110,10 +110,9 @@ impl World {
     }
 
     /// Whether the first step of an event has a record; none where it takes no step.
-    pub fn records(&mut self, alloc: Global, event: &WorldEvent) -> Result<Option<bool>, AllocError>
-        requires { length self.old.events < 4294967295 }
-        ensures records { IfOk result (λ r. r ≡ first_records (world_of self.old) (event_of event.now)) }
-        ensures same { self.new ≡ self.old }
+    pub fn records(&self, alloc: Global, event: &WorldEvent) -> Result<Option<bool>, AllocError>
+        requires { length self.now.events < 4294967295 }
+        ensures { IfOk result (λ r. r ≡ first_records (world_of self.now) (event_of event.now)) }
     {
         self.scene.records(alloc, event)
     }
