@@ -79,13 +79,23 @@ impl<T, M> Alteration<T, M> {
 ///
 /// Where ids rise, which they do in every node, those of all places are filed, and an item is found by its id at once;
 /// else by a walk.
-#[derive(Drop)]
 pub struct ById<T: Identified> {
     places: Vec<Place<T>>,
     ids: Ids,
     live: usize,
     /// Whether ids rise, and are filed.
     filed: bool,
+}
+
+impl<T: Identified + Drop> Drop for ById<T> {
+    fn drop(self) {
+        let ById {
+            places: _places,
+            ids: _ids,
+            live: _live,
+            filed: _filed,
+        } = self;
+    }
 }
 
 impl<T: Identified> Model for ById<T> {
