@@ -1,6 +1,5 @@
 mod Places
 mod Rising
-mod Filed
 mod Kept
 mod Retained
 pub mod Found

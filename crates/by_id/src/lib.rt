@@ -3,7 +3,6 @@
 #![tactic(auto)]
 
 pub mod fates;
-pub mod ids;
 pub mod list;
 pub mod moves;
 pub mod place;
