@@ -1,9 +1,9 @@
 -- Writing at the place of an id is giving, dropping and moving the item of that id.
-use Rattle.std.proofs.Common.{ℕ, Bool, List, [], ◌∷◌, ◌++◌, Some, None, ◌≡◌, ◌≤◌, ◌<◌, ◌+◌, ◌∙◌, sym, refl, length, suc, ap, true, false, cond, arith, slice_set, filter, map}
+use Rattle.std.proofs.Common.{List, [], ◌∷◌, ◌++◌, Some, None, ◌≡◌, ◌≤◌, ◌<◌, ◌+◌, ◌∙◌, sym, refl, length, suc, ap, arith, slice_set, filter, map}
 use Rattle.std.specs.Prelude.{HoldsAt, option_and_then, slice_get, slice_index_or}
 use Rattle.std.proofs.lemmas.Option.{slice_get_past, slice_get_read}
 use Rattle.at_base.specs.Numbers.{Numbers}
-use Rattle.at_model.specs.Book.{find_by, is_id, put_by}
+use Rattle.at_model.specs.Book.{find_by, put_by}
 use Rattle.by_id.specs.Lists.{move_by}
 use Rattle.by_id.specs.Places.{held, is_live, left, moved_at, place_by}
 use Rattle.by_id.specs.declared.place.Place.{Place}

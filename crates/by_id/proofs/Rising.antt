@@ -1,8 +1,7 @@
--- Where ids rise, halving finds what a walk finds; and they rise on where items are added behind, given anew or dropped.
-use Rattle.std.proofs.Common.{ℕ, List, [], ◌∷◌, ◌++◌, Some, Bool, true, false, ◌≡◌, ◌≤◌, ◌<◌, ◌-◌, ◌+◌, refl, sym, ap, subst, suc, zero, length, drop, arith, get_or, slice_set, nat_lt, ltb-true, ltb-false}
+-- Ids that rise rise on where items are added behind, given anew or dropped.
+use Rattle.std.proofs.Common.{ℕ, List, [], ◌∷◌, ◌++◌, Some, Bool, true, false, ◌≡◌, ◌<◌, ◌-◌, ◌+◌, refl, subst, suc, zero, length, drop, arith, get_or, slice_set, nat_lt, ltb-true, ltb-false}
 use Rattle.std.specs.Prelude.{if◌then◌else◌}
-use Rattle.std.specs.List.{All, AllAdjacentBelow, AllWithin, HoldsAt, items_where_true}
-use Rattle.std.specs.List.Sorted.{IsPartitionPoint, IsPartitionedBy}
+use Rattle.std.specs.List.{All, AllAdjacentBelow, AllWithin, items_where_true}
 use Rattle.std.proofs.lemmas.Grind.{common_steps}
 use Rattle.std.proofs.lemmas.List.Elements.{All-nil, All-cons, All-tail, All-head}
 use Rattle.std.proofs.lemmas.List.Kept.{AllPairs-cons}
@@ -21,13 +20,7 @@ before_trans a b c e f = grind (arith)
 not_behind : (a b : Numbers) → is_before a b ≡ true → is_before b a ≡ false
 not_behind a b e = grind (arith)
 
-distinct : (a b : Numbers) → is_before a b ≡ true → is_id a b ≡ false
-distinct a b e = grind (arith)
-
-past : (a b id : Numbers) → is_before a id ≡ false → is_before a b ≡ true → is_id b id ≡ false
-past a b id e f = grind (arith)
-
-same_by : (a b id : Numbers) → is_id a id ≡ true → is_id b id ≡ true → a ≡ b
+pub same_by : (a b id : Numbers) → is_id a id ≡ true → is_id b id ≡ true → a ≡ b
 same_by a b id e f = grind (arith)
 
 all_kept : {A : Type 0} (P : A → Type 0) (bs : List Bool) (xs : List A) → All P xs → All P (items_where_true bs xs)
@@ -39,13 +32,6 @@ all_kept P (false ∷ bs) (x ∷ xs) all = all_kept P bs xs (All-tail P x xs all
 module _ {A : Type 0} (key : A → Numbers) where
   abbrev Before : A → A → Type 0
   Before x y = is_before (key x) (key y) ≡ true
-
-  -- the items before this place were drawn before the id, and no others
-  abbrev Parts : Numbers → List A → ℕ → Type 0
-  Parts id xs i = IsPartitionPoint (λ x. is_before (key x) id ≡ true) (λ x. is_before (key x) id ≡ false) xs i
-
-  pub partitioned : (id : Numbers) (xs : List A) → IsRising key xs → IsPartitionedBy (λ x. is_before (key x) id) xs
-  partitioned id xs up i j d le l e = grind (arith, up i j d, before_trans (key (get_or xs i d)) (key (get_or xs j d)) id)
 
   -- each comes before its neighbour, so before all later ones
   pub rising_when : (xs : List A) → AllAdjacentBelow Before xs (length xs) → IsRising key xs
@@ -74,36 +60,6 @@ module _ {A : Type 0} (key : A → Numbers) where
 
 -- places, whose ids are those of the items that stand or stood there
 module _ {A : Type 0} (key : A → Numbers) where
-  other : (id : Numbers) (p : Place A) → is_id (id_at key p) id ≡ false → holds key id p ≡ false
-  other id (places.Live x) e = e
-  other id (places.Gone gone) e = refl
-
-  place_is : (id : Numbers) (ps : List (Place A)) (i : ℕ) → i ≤ length ps → AllWithin (λ p. holds key id p ≡ false) ps 0 i
-      → (i < length ps → HoldsAt (λ p. holds key id p ≡ true) ps i) → place_by key id ps ≡ i
-  place_is id [] i le others here = omega arith
-  place_is id (p ∷ ps) zero le others here = rw (here (omega arith) p) refl
-  place_is id (p ∷ ps) (suc i) le others here =
-      rw (others 0 p (omega arith) (omega arith)) (ap suc (place_is id ps i (omega arith) (λ k d z l. others (suc k) d (omega arith) (omega arith)) (λ l d. here (omega arith) d)))
-
-  pub found_at : (id : Numbers) (ps : List (Place A)) (i : ℕ) → Parts (id_at key) id ps i → i < length ps → HoldsAt (λ p. holds key id p ≡ true) ps i → i ≡ place_by key id ps
-  found_at id ps i parts l here = sym (place_is id ps i (omega arith) (λ k d z b. other id (get_or ps k d) (distinct (id_at key (get_or ps k d)) id (parts.0 k d z b))) (λ _. here))
-
-  pub found_none : (id : Numbers) (ps : List (Place A)) (i : ℕ) → IsRising (id_at key) ps → Parts (id_at key) id ps i → (i < length ps → HoldsAt (λ p. holds key id p ≡ false) ps i)
-      → length ps ≡ place_by key id ps
-  found_none id ps i up parts gone = sym (place_is id ps (length ps) (omega arith) none (λ l. absurd (omega arith)))
-    where
-      none : AllWithin (λ p. holds key id p ≡ false) ps 0 (length ps)
-      none k d z l = grind (
-        arith,
-        parts.0 k d,
-        parts.1 i d,
-        gone,
-        up i k d,
-        other id (get_or ps k d),
-        distinct (id_at key (get_or ps k d)) id,
-        past (id_at key (get_or ps i d)) (id_at key (get_or ps k d)) id,
-      )
-
   -- what was drawn before an id isn't behind it
   pub next_from : (due : A → Bool) (last : Numbers) (ps : List (Place A)) (i : ℕ) → AllWithin (λ p. is_before (id_at key p) last ≡ true) ps 0 i
       → next_due key due (Some last) (left (drop i ps)) ≡ next_due key due (Some last) (left ps)

@@ -1,5 +1,5 @@
 -- Lists of live items that are found by their ids, in the order of making, as the model's book has them.
-use Rattle.std.specs.Prelude.{ℕ, List, [], ◌∷◌, ◌++◌, Option, Some, None, Bool, true, false, nat_lt, ◌≡◌, ◌&&◌, if◌then◌else◌, length}
+use Rattle.std.specs.Prelude.{List, [], ◌∷◌, ◌++◌, Option, Some, None, Bool, true, false, nat_lt, ◌≡◌, ◌&&◌, if◌then◌else◌, length}
 use Rattle.std.specs.List.{AllPairs}
 use Rattle.at_base.specs.declared.limits.TheConstants.{MOST_ITEMS}
 use Rattle.at_base.specs.Numbers.{Numbers}

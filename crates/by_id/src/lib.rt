@@ -3,6 +3,7 @@
 #![tactic(auto)]
 
 pub mod fates;
+pub mod ids;
 pub mod list;
 pub mod moves;
 pub mod place;

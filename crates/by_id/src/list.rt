@@ -2,8 +2,8 @@
 
 ghost use Rattle.std.specs.Prelude.{Bool, ◌≡◌, ◌≤◌, ◌*◌, ◌++◌, ◌∷◌, IfOk, [], option_copied, length, map, Some, None, true, false};
 ghost use Rattle.std.specs.Fn.{CalledAt};
+ghost use Rattle.std.specs.List.{AllWithin};
 ghost use Rattle.std.specs.List.Retain.{IsFiltered};
-ghost use Rattle.std.specs.List.Sorted.{IsPartitionPoint};
 ghost use Rattle.std.specs.Vec.{vec_capacity};
 ghost use Rattle.at_base.specs.Numbers.{Numbers};
 ghost use Rattle.at_base.specs.declared.event.Moment.{Moment};
@@ -11,9 +11,10 @@ ghost use Rattle.at_base.specs.declared.limits.TheConstants.{MOST_ITEMS};
 ghost use Rattle.at_model.specs.Book.{is_id, find_by, put_by};
 ghost use Rattle.at_model.specs.Recovery.{is_before};
 ghost use Rattle.by_id.specs.Lists.{IsRising, add_to, altered, is_addition, is_behind, move_by, next_due};
-ghost use Rattle.by_id.specs.Places.{id_at, left, place_by, told_at};
+ghost use Rattle.by_id.specs.Places.{IsFiled, IsPart, WasFiled, id_at, left, place_by, told_at};
 ghost use Rattle.by_id.specs.declared.place.Place.TheVariants as place;
 
+use crate::ids::Ids;
 use crate::place::{Items, Place};
 use at_base::event::Moment;
 use at_base::id::Id;
@@ -76,13 +77,25 @@ impl<T, M> Alteration<T, M> {
 /// those are left out: so dropping an item is O(1), over many of them. Adding one is O(1) and takes no memory, since the
 /// list is made with the room that `MOST_ITEMS` items need.
 ///
-/// The list knows whether ids rise in it, which they do in every node, and then an item is found by halving; else by a
-/// walk.
-#[derive(Drop)]
+/// Where ids rise, which they do in every node, those of all places are filed, and an item is found by its id at once;
+/// else by a walk.
 pub struct ById<T: Identified> {
     places: Vec<Place<T>>,
+    ids: Ids,
     live: usize,
-    rising: bool,
+    /// Whether ids rise, and are filed.
+    filed: bool,
+}
+
+impl<T: Identified + Drop> Drop for ById<T> {
+    fn drop(self) {
+        let ById {
+            places: _places,
+            ids: _ids,
+            live: _live,
+            filed: _filed,
+        } = self;
+    }
 }
 
 impl<T: Identified> Model for ById<T> {
@@ -95,7 +108,7 @@ impl<T: Identified> Model for ById<T> {
 
     ghost view = { λ k. left k.places.items };
 
-    ghost invariant = { λ k. IsKept T.id_of k.rising k.live k.places.items × (2 * MOST_ITEMS ≤ vec_capacity k.places) };
+    ghost invariant = { λ k. IsKept T.id_of k.filed k.live k.ids k.places.items × (2 * MOST_ITEMS ≤ vec_capacity k.places) };
 }
 
 impl<T: Identified + Drop> ById<T> {
@@ -105,8 +118,9 @@ impl<T: Identified + Drop> ById<T> {
     {
         Ok(ById {
             places: Vec::with_capacity(alloc, 2 * MOST_ITEMS)?,
+            ids: Ids::new(alloc)?,
             live: 0,
-            rising: true,
+            filed: true,
         })
     }
 
@@ -115,12 +129,14 @@ impl<T: Identified + Drop> ById<T> {
         ensures { IfOk result (λ list. list ≡ items.items) }
     {
         let live = items.len();
+        let mut ids = Ids::new(*items.allocator())?;
         let places = places_of(items)?;
-        let rising = is_rising(places.as_slice());
+        let filed = is_rising(places.as_slice()) && ids.file_all(places.as_slice());
         Ok(ById {
             places,
+            ids,
             live,
-            rising,
+            filed,
         })
     }
 
@@ -138,12 +154,14 @@ impl<T: Identified + Drop> ById<T> {
         self.live
     }
 
-    /// The item of this id. It is found by halving where ids rise, which they do in every node; else by a walk.
+    /// The item of this id. It is found at once where ids rise, which they do in every node; else by a walk.
     pub fn find(&self, id: Id) -> Option<&T>
         ensures { option_copied result ≡ find_by T.id_of id self.now }
     {
         let places = self.places.as_slice();
-        places.get(place_in(places, self.rising, id))?.item()
+        places
+            .get(place_in(places, &self.ids, self.filed, id))?
+            .item()
     }
 
     /// Gives the item of this id anew; nothing where there is none.
@@ -151,9 +169,9 @@ impl<T: Identified + Drop> ById<T> {
     fn replace(&mut self, id: Id, item: T)
         ensures { self.new ≡ put_by T.id_of id (Some item) self.old }
     {
-        let place = place_in(self.places.as_slice(), self.rising, id);
+        let place = place_in(self.places.as_slice(), &self.ids, self.filed, id);
         if place < self.places.len() {
-            self.rising = self.rising && is_same(item.id(), id);
+            self.filed = self.filed && is_same(item.id(), id);
             self.places[place] = Place::Live(item);
         }
     }
@@ -163,11 +181,13 @@ impl<T: Identified + Drop> ById<T> {
     fn remove(&mut self, id: Id)
         ensures { self.new ≡ put_by T.id_of id None self.old }
     {
-        let place = place_in(self.places.as_slice(), self.rising, id);
+        let place = place_in(self.places.as_slice(), &self.ids, self.filed, id);
         if place < self.places.len() {
             self.places[place] = Place::Gone(id);
             self.live -= 1;
+            let before = self.places.len();
             pack(&mut self.places, self.live);
+            self.filed = refile(self.places.as_slice(), &mut self.ids, self.filed, before);
         }
     }
 
@@ -186,12 +206,12 @@ impl<T: Identified + Drop> ById<T> {
     fn make(&mut self, id: Id, by: T::Move)
         ensures { self.new ≡ move_by T.id_of T.moved id by self.old }
     {
-        let place = place_in(self.places.as_slice(), self.rising, id);
+        let place = place_in(self.places.as_slice(), &self.ids, self.filed, id);
         if place < self.places.len() {
             let moved = &mut self.places[place];
             moved.make(by);
             let same = is_same(moved.id(), id);
-            self.rising = self.rising && same;
+            self.filed = self.filed && same;
         }
     }
 
@@ -201,7 +221,7 @@ impl<T: Identified + Drop> ById<T> {
         ensures { self.new ≡ add_to item self.old }
     {
         if self.live < MOST_ITEMS {
-            self.rising = self.rising && is_next(self.places.as_slice(), &item);
+            self.filed = file_next(self.places.as_slice(), &mut self.ids, self.filed, &item);
             let Ok(()) = self.places.push(Place::Live(item)) else {
                 unreachable!()
             };
@@ -229,6 +249,7 @@ impl<T: Identified + Drop> ById<T> {
         );
         self.live -= before - self.places.len();
         pack(&mut self.places, self.live);
+        self.filed = refile(self.places.as_slice(), &mut self.ids, self.filed, before);
     }
 
     /// Takes an alteration over. It takes no memory, and cannot fail.
@@ -245,14 +266,14 @@ impl<T: Identified + Drop> ById<T> {
 
     /// The id of the first item behind this one, or of the first at all, that is due.
     ///
-    /// Where ids rise, which they do in every node, the walk begins at a place found by halving: so to go through all
-    /// that are due takes one walk, and a halving for each of them.
+    /// Where ids rise, which they do in every node, the walk begins at the place of the id: so to go through all that
+    /// are due takes one walk.
     pub fn next_due(&self, after: Option<Id>, moment: &Moment) -> Option<Id>
         ensures { result ≡ next_due T.id_of (T.is_due_at moment.entry.now) after self.now }
     {
         let places = self.places.as_slice();
         let start = match after {
-            Some(last) if self.rising => first_from(places, last),
+            Some(last) if self.filed => place_before(places, &self.ids, last),
             _ => 0,
         };
         first_due(&places[start..], &after, moment)
@@ -278,7 +299,7 @@ fn pack<T: Drop>(places: &mut Vec<Place<T>>, live: usize)
     ensures left { left places.new.items ≡ left places.old.items }
     ensures few { length places.new.items ≤ 2 * live }
     ensures room { vec_capacity places.new ≡ vec_capacity places.old }
-    ensures rising { (key : T → Numbers) → IsRising (id_at key) places.old.items → IsRising (id_at key) places.new.items }
+    ensures part { IsPart places.old.items places.new.items }
 {
     if places.len() - live > live {
         places.retain(|place: &Place<T>| place.is_live());
@@ -307,38 +328,59 @@ fn is_next<T: Identified>(places: &[Place<T>], item: &T) -> bool
     }
 }
 
-/// The first place whose id doesn't come before this one, or how many there are where there is none, by halving.
-fn first_from<T: Identified>(places: &[Place<T>], id: Id) -> usize
-    requires { IsRising (id_at T.id_of) places.now }
-    ensures bound { result ≤ length places.now }
-    ensures place { IsPartitionPoint (λ p. is_before (id_at T.id_of p) id ≡ true) (λ p. is_before (id_at T.id_of p) id ≡ false) places.now result }
+/// Whether ids are filed on, where this item is added behind these places: its id is filed behind theirs.
+fn file_next<T: Identified>(places: &[Place<T>], ids: &mut Ids, filed: bool, item: &T) -> bool
+    requires { filed ≡ true → IsFiled T.id_of ids.old places.now }
+    ensures { result ≡ true → IsFiled T.id_of ids.new (places.now ++ place.Live item.now ∷ []) }
 {
-    places.partition_point(
-        |place: &Place<T>| -> bool
-            ensures { result ≡ is_before (id_at T.id_of place.now) id }
-        { is_before(place.id(), id) },
-    )
+    filed && is_next(places, item) && ids.file(item.id())
+}
+
+/// Whether ids are filed on, of places of which there were so many before: they are filed anew where some were left out.
+fn refile<T: Identified>(places: &[Place<T>], ids: &mut Ids, filed: bool, before: usize) -> bool
+    requires { filed ≡ true → WasFiled T.id_of ids.old before places.now }
+    ensures { result ≡ true → IsFiled T.id_of ids.new places.now }
+{
+    if places.len() < before {
+        filed && ids.file_all(places)
+    } else {
+        filed
+    }
+}
+
+/// The place of the item of this id, before which none stands that is behind it; the first where there is none.
+fn place_before<T: Identified>(places: &[Place<T>], ids: &Ids, id: Id) -> usize
+    requires { IsFiled T.id_of ids.now places.now }
+    ensures bound { result ≤ length places.now }
+    ensures before { AllWithin (λ p. is_before (id_at T.id_of p) id ≡ true) places.now 0 result }
+{
+    let Some(place) = ids.place_of(id) else {
+        return 0;
+    };
+    place
 }
 
 /// The place of the item of this id, or how many places there are where there is none.
-fn place_in<T: Identified>(places: &[Place<T>], rising: bool, id: Id) -> usize
-    requires { rising ≡ true → IsRising (id_at T.id_of) places.now }
+fn place_in<T: Identified>(places: &[Place<T>], ids: &Ids, filed: bool, id: Id) -> usize
+    requires { filed ≡ true → IsFiled T.id_of ids.now places.now }
     ensures { result ≡ place_by T.id_of id places.now }
 {
-    if rising {
-        halve_to(places, id)
+    if filed {
+        filed_at(places, ids, id)
     } else {
         walk_to(places, id)
     }
 }
 
-/// The same, by halving.
-fn halve_to<T: Identified>(places: &[Place<T>], id: Id) -> usize
-    requires { IsRising (id_at T.id_of) places.now }
+/// The same, where ids are filed.
+fn filed_at<T: Identified>(places: &[Place<T>], ids: &Ids, id: Id) -> usize
+    requires { IsFiled T.id_of ids.now places.now }
     ensures { result ≡ place_by T.id_of id places.now }
 {
-    let place = first_from(places, id);
-    if place < places.len() && places[place].holds(id) {
+    let Some(place) = ids.place_of(id) else {
+        return places.len();
+    };
+    if places[place].holds(id) {
         place
     } else {
         places.len()

@@ -112,7 +112,6 @@ fn is_committing(phase: Phase) -> bool
 }
 
 /// What a node knows: its transactions, leaves and activities, and how many ids it drew.
-#[derive(Drop)]
 pub struct Book {
     /// The base, whose copies share its bytes, and room for the moment at which the lists are asked what is due.
     moment: Moment,
@@ -123,6 +122,21 @@ pub struct Book {
     transactions: Transactions,
     leaves: Leaves,
     activities: Activities,
+}
+
+impl Drop for Book {
+    fn drop(self) {
+        let Book {
+            moment: _moment,
+            incarnation: _incarnation,
+            counter: _counter,
+            seen: _seen,
+            outcomes: _outcomes,
+            transactions: _transactions,
+            leaves: _leaves,
+            activities: _activities,
+        } = self;
+    }
 }
 
 impl Model for Book {

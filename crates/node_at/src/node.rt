@@ -13,7 +13,6 @@ use journal_at::journal::Journal;
 /// A node: its book, its journal, and what it keeps of the journal's records. `effects` are those of the call that runs or
 /// of the last one, `shrunk` is what became of the journal at the end of the last turn. Once it has `halted` it does nothing
 /// more.
-#[derive(Drop)]
 pub struct Node {
     pub(crate) book: Book,
     pub(crate) kept: Kept,
@@ -22,6 +21,20 @@ pub struct Node {
     pub(crate) halted: bool,
     pub(crate) role: Role,
     pub(crate) shrunk: Shrunk,
+}
+
+impl Drop for Node {
+    fn drop(self) {
+        let Node {
+            book: _book,
+            kept: _kept,
+            journal: _journal,
+            effects: _effects,
+            halted: _halted,
+            role: _role,
+            shrunk: _shrunk,
+        } = self;
+    }
 }
 
 impl Node {

@@ -11,7 +11,6 @@ use std::alloc::Global;
 ///
 /// A write, sync, answer or post that gets no memory fails, raises its count and changes nothing else; `wanted` is true from
 /// then on. A failed write isn't seen by reads, but its range is pending.
-#[derive(Drop)]
 pub struct MemSite {
     pub(crate) alloc: Global,
     pub(crate) device: Device,
@@ -22,4 +21,20 @@ pub struct MemSite {
     pub(crate) clock: u64,
     pub(crate) tally: Tally,
     pub(crate) fail_read: u32,
+}
+
+impl Drop for MemSite {
+    fn drop(self) {
+        let MemSite {
+            alloc: _alloc,
+            device: _device,
+            line: _line,
+            answers: _answers,
+            posts: _posts,
+            links: _links,
+            clock: _clock,
+            tally: _tally,
+            fail_read: _fail_read,
+        } = self;
+    }
 }

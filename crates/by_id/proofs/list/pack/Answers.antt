@@ -1,9 +1,8 @@
-use Rattle.std.proofs.Common.{rules, ap, length, subst, sym, ◌≡◌, ◌∙◌}
+use Rattle.std.proofs.Common.{rules, ap, length, ◌∙◌}
 use Rattle.std.proofs.lemmas.Fn.{filter_same}
-use Rattle.by_id.specs.Lists.{IsRising}
-use Rattle.by_id.specs.Places.{id_at, is_live, left}
+use Rattle.by_id.specs.Places.{is_live, left}
+use Rattle.by_id.proofs.Filed.{all_part}
 use Rattle.by_id.proofs.Places.{left_packed, length_packed}
-use Rattle.by_id.proofs.Rising.{rising_kept}
 use Rattle.by_id.proofs.list.pack.Goals as goal
 
 pub returns-then-len-live-clause-left : goal.returns-then-len-live-clause-left
@@ -14,7 +13,8 @@ returns-then-len-live-clause-few g c =
     let many = ap length (filter_same _ is_live _ (λ x b f' k. search rules) _ _ c.retain.ensures.filtered) ∙ length_packed c.args.places.now.items in
     search rules
 
-pub returns-then-len-live-clause-rising : goal.returns-then-len-live-clause-rising
-returns-then-len-live-clause-rising g c key up =
-    let kept = c.retain.ensures.filtered in
-    subst (IsRising (id_at key)) (sym kept.4) (rising_kept (id_at key) kept.0 c.args.places.now.items up)
+pub returns-then-len-live-clause-part : goal.returns-then-len-live-clause-part
+returns-then-len-live-clause-part g c = let kept = c.retain.ensures.filtered in (kept.0, kept.4)
+
+pub returns-else-len-live-clause-part : goal.returns-else-len-live-clause-part
+returns-else-len-live-clause-part g c = all_part c.args.places.now.items

@@ -9,6 +9,6 @@ invariant_of-self g c =
     let ps = c.self.inside.places.items in
     let here : c.place_in-place.result ≡ place_by key c.args.id ps = c.place_in-place.ensures ∙ ap (place_by key c.args.id) c.as_slice.ensures.value in (
       rw here
-          (kept_moved key c.self.inside.rising c.self.inside.live ps c.if-self.self c.args.id g.T.Identified.moved c.args.by c.make.new.self c.index_mut-moved.result.now (search rules) (λ e. search rules) c.self.invariant.0),
+          (kept_moved key c.self.inside.filed c.self.inside.live c.self.inside.ids ps c.if-self.self c.args.id g.T.Identified.moved c.args.by c.make.new.self c.index_mut-moved.result.now (search rules) (λ e. search rules) c.self.invariant.0),
       search rules,
     )

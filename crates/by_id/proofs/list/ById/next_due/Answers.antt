@@ -13,7 +13,7 @@ returns g c =
     let walked = c.first_due.ensures ∙ ap (λ ps. next_due key due c.match-after.after (left ps)) (take_rest c.as_slice-places.result.now c.match-after.start) in
     elim c.match-after.branch [
       | in-Some w ↦
-          let from = next_from key due w.in-Some.last c.as_slice-places.result.now w.first_from-start.result w.first_from-start.ensures.place.0 in
+          let from = next_from key due w.in-Some.last c.as_slice-places.result.now w.place_before-start.result w.place_before-start.ensures.before in
           search rules
       | in_default-2 w ↦ search rules
       | in_default w ↦ search rules

@@ -1,12 +1,10 @@
-use Rattle.std.proofs.Common.{rules, of_calls, subst, sym}
+use Rattle.std.proofs.Common.{rules, of_calls, length, subst, sym, ◌≡◌}
 use Rattle.std.specs.Fn.{CalledAt}
 use Rattle.std.specs.List.Retain.{IsFiltered}
 use denote.Param.Always.{always_mut, mut_by}
-use Rattle.by_id.specs.Lists.{IsRising}
-use Rattle.by_id.specs.Places.{id_at, left}
-use Rattle.by_id.proofs.Kept.{kept_packed}
+use Rattle.by_id.specs.Places.{IsFiled, WasFiled, left}
+use Rattle.by_id.proofs.Filed.{was_filed, was_part}
 use Rattle.by_id.proofs.Retained.{left_kept, many_kept}
-use Rattle.by_id.proofs.Rising.{rising_kept}
 use Rattle.by_id.proofs.list.ById.retain.Goals as goal
 
 pub retain-requires : goal.retain-requires
@@ -22,16 +20,22 @@ pack-requires g c =
     let many = many_kept _ (CalledAt g.F.FnMut) (λ w. w.0.now) _ c.self.inside.places.items c.retain.new.self.items c.retain.ensures.filtered (λ p x b q e. search (rules, of_calls)) in
     search rules
 
+pub refile-self-inside-requires : goal.refile-self-inside-requires
+refile-self-inside-requires g c e =
+    let key = g.T.Identified.id_of in
+    let ids = c.self.inside.ids in
+    let ps = c.self.inside.places.items in
+    let kept = c.retain.ensures.filtered in
+    let was : WasFiled key ids (length ps) c.pack.new.places.items =
+    was_part key ids (length ps) c.retain.new.self.items c.pack.new.places.items c.pack.ensures.part
+    (was_part key ids (length ps) ps c.retain.new.self.items (kept.0, kept.4) (was_filed key ids ps (c.self.invariant.0.2 e))) in
+    let many : c.len-before.result ≡ length ps = search rules in
+    rw (c.as_slice.ensures.value, many) was
+
 pub invariant_of-self : goal.invariant_of-self
 invariant_of-self g c =
-    let key = g.T.Identified.id_of in
-    let kept = c.retain.ensures.filtered in
-    let many = many_kept _ (CalledAt g.F.FnMut) (λ w. w.0.now) _ c.self.inside.places.items c.retain.new.self.items kept (λ p x b q e. search (rules, of_calls)) in (
-      kept_packed key c.self.inside.rising _ c.retain.new.self.items c.pack.new.places.items (search rules)
-          (λ e. subst (IsRising (id_at key)) (sym kept.4) (rising_kept (id_at key) kept.0 c.self.inside.places.items (c.self.invariant.0.2 e)))
-          c.pack.ensures.left c.pack.ensures.few (c.pack.ensures.rising key),
-      search rules,
-    )
+    let many = many_kept _ (CalledAt g.F.FnMut) (λ w. w.0.now) _ c.self.inside.places.items c.retain.new.self.items c.retain.ensures.filtered (λ p x b q e. search (rules, of_calls)) in
+    ((search rules, c.pack.ensures.few, λ e. subst (IsFiled g.T.Identified.id_of _) c.as_slice.ensures.value (c.refile-self-inside.ensures e)), search rules)
 
 pub returns : goal.returns
 returns g c =
