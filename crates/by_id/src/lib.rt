@@ -5,7 +5,6 @@
 pub mod fates;
 pub mod ids;
 pub mod list;
-pub mod moves;
 pub mod place;
 pub mod plan;
 pub mod times;

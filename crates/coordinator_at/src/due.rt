@@ -18,10 +18,10 @@ use at_posts::list::PostList;
 use at_posts::posts::register_post;
 use at_tables::cells::State;
 use by_id::fates::{Choice, Fate, Turn};
-use by_id::moves::Moving;
 use endpoints::uris::protocol_of;
 use std::alloc::{AllocError, Global};
 use transaction_at::abort::{Reason, abort};
+use transaction_at::draft::Draft;
 use transaction_at::due::{Cause, cause_of, unanswered_seat};
 use transaction_at::links::push_upwards;
 use transaction_at::moves::Move;
@@ -190,8 +190,8 @@ fn expires(
     ensures { IfOk result
         (λ turn. turn_of (Some transaction.now) turn ≡ abort moment.entry.now Alone (begin transaction.now)) }
 {
-    let moving = Moving::begin(alloc, transaction.clone()?);
-    abort(alloc, moment, &Reason::Alone, moving)
+    let draft = Draft::begin(alloc, transaction)?;
+    abort(alloc, moment, &Reason::Alone, draft)
 }
 
 /// The transaction is forgotten.

@@ -1,14 +1,14 @@
 -- An index finds what a walk finds, and is kept as one key more comes behind the others.
-use Rattle.std.proofs.Common.{ℕ, suc, zero, List, [], ◌∷◌, ◌++◌, ◌≡◌, ◌<◌, ◌≤◌, ◌+◌, ◌∙◌, refl, sym, ap, subst, Option, Some, None, Bool, true, false, length, get_or, arith, take, drop, insert, nat_eq, nat_lt, ltb-true, ltb-false, true≢false}
+use Rattle.std.proofs.Common.{ℕ, suc, zero, List, [], ◌∷◌, ◌++◌, ◌≡◌, ◌<◌, ◌≤◌, ◌∙◌, refl, sym, ap, subst, Option, Some, None, Bool, true, false, length, get_or, arith, insert, nat_eq, nat_lt, ltb-true, ltb-false, true≢false}
 use Rattle.std.proofs.lemmas.Bool.{eqb-true, eqb-false}
-use Rattle.std.specs.Prelude.{slice_get, find, option_map, if◌then◌else◌, cond, slice_index_or}
+use Rattle.std.specs.Prelude.{slice_get, find, option_map, if◌then◌else◌, cond}
 use Rattle.std.specs.List.{All, AllPairs, AllWithin, HoldsAt}
 use Rattle.std.specs.List.Sorted.{IsPartitionPoint, IsPartitionedBy}
 use Rattle.std.specs.Ordering.{is_eq, is_lt, ordering_reverse}
 use Rattle.std.specs.declared.cmp.Ordering.{Ordering}
 use Rattle.std.specs.declared.cmp.Ordering.TheVariants.{Less, Equal, Greater}
-use Rattle.std.specs.Cmp.{IsTotalOrder, alike_right, tied_back}
-use Rattle.std.proofs.lemmas.List.Elements.{All-nil, All-cons, All-head, All-tail}
+use Rattle.std.specs.Cmp.{IsTotalOrder, tied_back}
+use Rattle.std.proofs.lemmas.List.Elements.{All-cons, All-head, All-tail}
 use Rattle.std.proofs.lemmas.List.Kept.{AllPairs-cons}
 use Rattle.std.proofs.lemmas.Option.{slice_get-get_or}
 use Rattle.transaction_at.specs.Filed.{first_place, passes, ties, below, comes, IsFiled}

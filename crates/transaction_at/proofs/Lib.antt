@@ -1,3 +1,4 @@
+mod Drafts
 mod FiledPlaces
 mod SeatHolders
 mod Resends

@@ -1,11 +1,11 @@
 -- The seat of a holder, where an index has it.
-use Rattle.std.proofs.Common.{ℕ, suc, zero, List, [], ◌∷◌, ◌++◌, Option, Some, None, Bool, true, false, ◌≡◌, ◌<◌, ◌≤◌, ◌∙◌, refl, sym, ap, subst, length, get_or, arith, insert}
+use Rattle.std.proofs.Common.{ℕ, suc, zero, List, [], ◌∷◌, ◌++◌, Option, Some, None, Bool, true, false, ◌≡◌, ◌<◌, ◌≤◌, ◌∙◌, refl, sym, ap, subst, length, get_or, insert}
 use Rattle.std.specs.Prelude.{find, option_map, slice_get, cond, ◌&&◌}
 use Rattle.std.specs.List.{HoldsAt}
 use Rattle.std.specs.List.Sorted.{IsPartitionPoint, IsPartitionedBy}
 use Rattle.std.specs.Cmp.{IsTotalOrder, both_tied, nat_cmp_total, on_total, then_total, unsigned_ties}
 use Rattle.std.specs.Cmp.Lexicographic.{on_texts, texts_ties}
-use Rattle.std.specs.Ordering.{is_eq, is_lt}
+use Rattle.std.specs.Ordering.{is_eq}
 use Rattle.std.proofs.lemmas.List.Elements.{at_read}
 use Rattle.std.proofs.lemmas.Option.{slice_get-get_or, slice_get_within}
 use Rattle.at_base.specs.Names.{is_kind, kind_place}

@@ -1,7 +1,7 @@
 -- Who holds a seat: its kind and its endpoint, in an order of these.
 use Rattle.std.specs.Prelude.{ℕ, List, map}
 use Rattle.std.specs.Cmp.Lexicographic.{slice_cmp}
-use Rattle.std.specs.Ordering.{nat_cmp, on, ordering_then}
+use Rattle.std.specs.Ordering.{nat_cmp, ordering_then}
 use Rattle.std.specs.declared.cmp.Ordering.{Ordering}
 use Rattle.at_base.specs.Names.{kind_place}
 use Rattle.at_base.specs.declared.epr.Epr.{Epr}

@@ -1,16 +1,17 @@
 //! Abort (WS-AtomicTransaction 1.2, sections 3.2, 3.3.3 and 3.3.4).
 
-ghost use Rattle.std.specs.Prelude.{◌≡◌, ◌++◌, IfOk, OnOk, Option, Some, option_copied};
-ghost use Rattle.at_model.specs.Book.{Phase as Stage, Transaction as Known};
+ghost use Rattle.std.specs.Prelude.{◌≡◌, ◌++◌, IfOk, OnOk, Some, option_copied};
+ghost use Rattle.at_model.specs.Book.{Phase as Stage};
 ghost use Rattle.at_base.specs.declared.outs.Ending.TheVariants as endings;
-ghost use Rattle.at_model.specs.Moves.{posts, effect};
+ghost use Rattle.at_model.specs.Moves.{become, posts, effect};
 ghost use Rattle.at_model.specs.Posts.{stored_or};
 ghost use Rattle.at_model.specs.Seats.{ending};
 ghost use Rattle.at_model.specs.Abort.{abort, from_of, is_silent, link_aborted, links_aborted, until_rolled_back, without_links};
-ghost use Rattle.transaction_at.specs.Moves.{turn_of};
+ghost use Rattle.transaction_at.specs.Moves.{onto, turn_of};
 ghost use Rattle.transaction_at.specs.Reasons.{reason_of};
 
-use crate::links::{ending, push_from_link, tell_initiator};
+use crate::draft::Draft;
+use crate::links::{push_from_link, tell_initiator};
 use crate::moves::Move;
 use crate::seats::{Group, is_state, send_each};
 use crate::transaction::{Link, Phase, Superior, Transaction};
@@ -22,7 +23,6 @@ use at_base::outs::Ending;
 use at_posts::list::PostList;
 use at_tables::cells::State;
 use by_id::fates::Turn;
-use by_id::moves::Moving;
 use std::alloc::{AllocError, Global};
 
 /// Why a transaction aborts.
@@ -154,26 +154,26 @@ fn end_links(superior: &mut Option<Superior>)
 }
 
 /// The transaction is Aborting from now on.
-fn aborting(moment: &Moment, transaction: &mut Transaction)
-    ensures { transaction.new ≡ record transaction.old {
-      superior = without_links transaction.old.superior;
+fn aborting(moment: &Moment, draft: &mut Draft<'_>)
+    ensures { draft.new ≡ onto (λ m. become (record m.item {
+      superior = without_links m.item.superior;
       phase = Stage.Aborting;
       aborted = Some moment.entry.now.now;
-    } }
+    }) m) draft.old }
 {
-    end_links(&mut transaction.superior);
-    transaction.phase = Phase::Aborting;
-    transaction.aborted = Some(moment.now);
+    end_links(&mut draft.item.superior);
+    draft.item.phase = Phase::Aborting;
+    draft.item.aborted = Some(moment.now);
 }
 
 /// Forgotten when no seat is Aborting.
-pub fn until_rolled_back(moving: Moving<Transaction>) -> Turn<Transaction, Move>
-    ensures { (found : Option Known) → turn_of found result ≡ until_rolled_back moving }
+pub(crate) fn until_rolled_back(draft: Draft<'_>) -> Turn<Transaction, Move>
+    ensures { turn_of (Some draft.entry.lent) result ≡ until_rolled_back draft.entry.course }
 {
-    if moving.item.seats.is_aborting() {
-        moving.stays()
+    if draft.is_aborting() {
+        draft.stays()
     } else {
-        moving.forgotten()
+        draft.forgotten()
     }
 }
 
@@ -182,20 +182,23 @@ fn abort_links(
     alloc: Global,
     moment: &Moment,
     reason: &Reason,
-    moving: &mut Moving<Transaction>,
+    draft: &mut Draft<'_>,
 ) -> Result<(), AllocError>
     ensures { OnOk result
-        (moving.new ≡ posts (links_aborted moment.entry.now.base moving.old.item.id (reason_of reason.now) moving.old.item.superior) (effect (ending moving.old.item endings.Aborted) moving.old)) }
+        (draft.new
+        ≡ onto (λ m. posts (links_aborted moment.entry.now.base m.item.id (reason_of reason.now) m.item.superior)
+        (effect (ending m.item endings.Aborted) m)) draft.old) }
 {
-    let what = ending(&moving.item, Ending::Aborted);
-    moving.effect(what)?;
+    let what = draft.ending(Ending::Aborted);
+    draft.effect(what)?;
+    let id = draft.id();
     push_links_aborted(
         alloc,
-        &mut moving.posts,
+        &mut draft.posts,
         moment,
-        moving.item.id,
+        id,
         reason,
-        &moving.item.superior,
+        &draft.item.superior,
     )
 }
 
@@ -206,22 +209,23 @@ fn abort_all(
     alloc: Global,
     moment: &Moment,
     reason: &Reason,
-    moving: &mut Moving<Transaction>,
+    draft: &mut Draft<'_>,
 ) -> Result<(), AllocError>
-    ensures { OnOk result
-        (until_rolled_back moving.new ≡ abort moment.entry.now (reason_of reason.now) moving.old) }
+    ensures lent { OnOk result (draft.new.lent ≡ draft.old.lent) }
+    ensures told { OnOk result
+        (until_rolled_back draft.new.course ≡ abort moment.entry.now (reason_of reason.now) draft.old.course) }
 {
-    abort_links(alloc, moment, reason, moving)?;
-    aborting(moment, &mut moving.item);
+    abort_links(alloc, moment, reason, draft)?;
+    aborting(moment, draft);
     send_each(
         alloc,
         moment,
-        moving,
+        draft,
         Notice::Rollback,
         State::Aborting,
         Group::Open,
     )?;
-    tell_initiator(alloc, moment, moving, Notice::Aborted, State::None)
+    tell_initiator(alloc, moment, draft, Notice::Aborted, State::None)
 }
 
 /// Aborts. Nothing is recorded, since abort is presumed.
@@ -229,11 +233,12 @@ pub fn abort(
     alloc: Global,
     moment: &Moment,
     reason: &Reason,
-    mut moving: Moving<Transaction>,
+    mut draft: Draft<'_>,
 ) -> Result<Turn<Transaction, Move>, AllocError>
-    ensures { (found : Option Known) → IfOk result
-        (λ turn. turn_of found turn ≡ abort moment.entry.now (reason_of reason.now) moving) }
+    ensures { IfOk result
+        (λ turn. turn_of (Some draft.entry.lent) turn
+        ≡ abort moment.entry.now (reason_of reason.now) draft.entry.course) }
 {
-    abort_all(alloc, moment, reason, &mut moving)?;
-    Ok(until_rolled_back(moving))
+    abort_all(alloc, moment, reason, &mut draft)?;
+    Ok(until_rolled_back(draft))
 }

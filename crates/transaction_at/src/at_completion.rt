@@ -10,11 +10,12 @@ ghost use Rattle.at_model.specs.Arrivals.{completion_act, completion_notice, on_
 ghost use Rattle.at_model.specs.Moves.{Goes, begin, post, posts, stays};
 ghost use Rattle.at_model.specs.Phases.{go_volatile};
 ghost use Rattle.at_model.specs.Posts.{fault_post, notice_post, to_each};
-ghost use Rattle.transaction_at.specs.Moves.{meant};
+ghost use Rattle.transaction_at.specs.Moves.{drafted, meant};
 
+use crate::draft::Draft;
 use crate::moves::Move;
 use crate::phases::{aborts, go_volatile};
-use crate::seats::{only_posts, still};
+use crate::seats::only_posts;
 use crate::transaction::{Completion, Transaction};
 use at_base::event::{Arrived, Moment};
 use at_base::fault::Fault;
@@ -26,7 +27,6 @@ use at_posts::list::PostList;
 use at_posts::posts::{fault_post, notice_post};
 use at_tables::cells::{Act, State, completion_cell};
 use by_id::fates::Choice;
-use by_id::moves::Moving;
 use std::alloc::{AllocError, Global};
 
 /// A fault to the initiator, which leaves the transaction as it stands.
@@ -56,16 +56,20 @@ fn completing(completion: &Completion) -> Result<Completion, AllocError>
     })
 }
 
-/// A copy of the transaction with this completion seat.
-fn with_completion(
-    transaction: &Transaction,
+/// The transaction at the begin of a step, with this completion seat.
+fn with_completion<'a>(
+    alloc: Global,
+    transaction: &'a Transaction,
     completion: Completion,
-) -> Result<Transaction, AllocError>
-    ensures { IfOk result (λ next. next ≡ record transaction.now { completion = Some completion }) }
+) -> Result<Draft<'a>, AllocError>
+    ensures { IfOk result
+        (λ draft. draft
+        ≡ drafted transaction.entry.now
+        (begin (record transaction.entry.now { completion = Some completion }))) }
 {
-    let mut next = transaction.clone()?;
-    next.completion = Some(completion);
-    Ok(next)
+    let mut draft = Draft::begin(alloc, transaction)?;
+    draft.set_completion(completion);
+    Ok(draft)
 }
 
 /// The initiator asks for commit: the volatile seats are asked first.
@@ -80,8 +84,8 @@ fn completes(
         ≡ go_volatile moment.entry.now
         (begin (record transaction.now { completion = Some (record completion.now { state = states.Completing }) }))) }
 {
-    let next = with_completion(transaction, completing(completion)?)?;
-    let choice = go_volatile(alloc, moment, Moving::begin(alloc, next))?;
+    let draft = with_completion(alloc, transaction, completing(completion)?)?;
+    let choice = go_volatile(alloc, moment, draft)?;
     Ok(choice)
 }
 
@@ -149,7 +153,7 @@ fn acts(
         ),
         Act::FaultInvalidState => faults(alloc, arrived, completion, Fault::InvalidState),
         Act::Complete => completes(alloc, moment, completion, transaction),
-        Act::AbortAndSendAborted => aborts(alloc, moment, still(alloc, transaction)?),
+        Act::AbortAndSendAborted => aborts(alloc, moment, Draft::begin(alloc, transaction)?),
         Act::Ignore
         | Act::SendPrepared
         | Act::SendCommit

@@ -17,14 +17,15 @@ ghost use Rattle.at_model.specs.Phases.{go_volatile, upwards};
 ghost use Rattle.at_model.specs.Posts.{fault_post, stored_or, stranger_post, to_each};
 ghost use Rattle.at_model.specs.Seats.{link_in, link_of, sent_now, set_link, under};
 ghost use Rattle.at_tables.specs.Names.{is_state};
-ghost use Rattle.transaction_at.specs.Moves.{meant};
+ghost use Rattle.transaction_at.specs.Moves.{drafted, meant};
 ghost use Rattle.transaction_at.specs.PhaseNames.{phase_of};
 
 use crate::abort::{Reason, abort};
+use crate::draft::Draft;
 use crate::links::{ending, push_upwards};
 use crate::moves::Move;
 use crate::phases::{aborts, commit_seats, go_volatile, or_undone};
-use crate::seats::{happening, is_state, only_posts, posting, still};
+use crate::seats::{is_state, only_posts};
 use crate::transaction::{Phase, Superior, Transaction};
 use at_base::epr::Epr;
 use at_base::event::{Arrived, Moment};
@@ -41,7 +42,6 @@ use at_posts::list::PostList;
 use at_posts::posts::{fault_post, stored_or, stranger_post};
 use at_tables::cells::{Act, State, participant_cell};
 use by_id::fates::{Choice, Fate, Turn};
-use by_id::moves::Moving;
 use endpoints::addresses::register_id;
 use std::alloc::{AllocError, Global};
 
@@ -148,8 +148,8 @@ fn faults_and_aborts(
         (λ to. fault_post (Some to) arrived.now.id InvalidState)) (begin transaction.now)))) }
 {
     let posts = fault_posts(alloc, arrived, kind, superior)?;
-    let moving = posting(alloc, transaction.clone()?, posts);
-    Ok(Choice::Goes(abort(alloc, moment, &Reason::Faulted(kind), moving)?))
+    let draft = Draft::posting(alloc, transaction, posts)?;
+    Ok(Choice::Goes(abort(alloc, moment, &Reason::Faulted(kind), draft)?))
 }
 
 /// A copy of the superior whose link of the kind was asked. A durable Prepare also ends a volatile link that wasn't
@@ -168,15 +168,6 @@ fn asked(kind: Kind, superior: &Superior) -> Result<Superior, AllocError>
     Ok(next)
 }
 
-/// A copy of the transaction under this superior.
-fn under(superior: Superior, transaction: &Transaction) -> Result<Transaction, AllocError>
-    ensures { IfOk result (λ next. next ≡ under superior transaction.now) }
-{
-    let mut next = transaction.clone()?;
-    next.superior = Some(superior);
-    Ok(next)
-}
-
 /// Prepare asks the seats.
 fn gathers(
     alloc: Global,
@@ -189,16 +180,8 @@ fn gathers(
         (λ choice. meant (Some transaction.now) choice
         ≡ go_volatile moment.entry.now (begin (under (asked kind superior.now) transaction.now))) }
 {
-    let next = under(asked(kind, superior)?, transaction)?;
-    go_volatile(alloc, moment, Moving::begin(alloc, next))
-}
-
-/// The transaction is told to commit, under this superior.
-fn committing(transaction: &mut Transaction, superior: Superior)
-    ensures { transaction.new ≡ record transaction.old { superior = Some superior; phase = Stage.Committing } }
-{
-    transaction.superior = Some(superior);
-    transaction.phase = Phase::Committing;
+    let draft = Draft::under(alloc, transaction, asked(kind, superior)?)?;
+    go_volatile(alloc, moment, draft)
 }
 
 /// A copy of the superior whose durable link was told to commit.
@@ -210,22 +193,23 @@ fn told_to_commit(superior: &Superior) -> Result<Superior, AllocError>
     Ok(next)
 }
 
-/// A copy of the transaction that is told to commit, under this superior.
-fn committing_under(
+/// The transaction that is told to commit, under this superior, at the begin of the step.
+fn committing_under<'a>(
+    alloc: Global,
     superior: &Superior,
-    transaction: &Transaction,
-) -> Result<Transaction, AllocError>
+    transaction: &'a Transaction,
+) -> Result<Draft<'a>, AllocError>
     ensures { IfOk result
-        (λ next. next
-        ≡ record transaction.now {
+        (λ draft. draft
+        ≡ drafted transaction.entry.now (begin (record transaction.entry.now {
           superior = Some (link_in kinds.Durable states.Committing superior.now);
           phase = Stage.Committing;
-        }) }
+        }))) }
 {
     let superior = told_to_commit(superior)?;
-    let mut next = transaction.clone()?;
-    committing(&mut next, superior);
-    Ok(next)
+    let mut draft = Draft::under(alloc, transaction, superior)?;
+    draft.set_phase(Phase::Committing);
+    Ok(draft)
 }
 
 /// A subordinate that was told to commit: the record first, then Commit to every Prepared seat. Where the record is
@@ -241,11 +225,11 @@ fn commits(
         (λ choice. meant (Some transaction.now) choice
         ≡ commit_voted moment.entry.now superior.now transaction.now) }
 {
-    let next = committing_under(superior, transaction)?;
-    let mut moving = happening(alloc, next, ending(transaction, Ending::Committed))?;
-    commit_seats(alloc, moment, &mut moving)?;
+    let mut draft = committing_under(alloc, superior, transaction)?;
+    draft.effect(ending(transaction, Ending::Committed))?;
+    commit_seats(alloc, moment, &mut draft)?;
     let id = transaction.id;
-    Ok(or_undone(Record::SubCommitted { id }, moving.stays()))
+    Ok(or_undone(Record::SubCommitted { id }, draft.stays()))
 }
 
 /// A Rollback before the vote aborts.
@@ -262,8 +246,8 @@ fn rolls_back(
 {
     let from = cloned_option(&arrived.from)?;
     let reason = Reason::Asked { kind, from };
-    let moving = still(alloc, transaction)?;
-    Ok(Choice::Goes(abort(alloc, moment, &reason, moving)?))
+    let draft = Draft::begin(alloc, transaction)?;
+    Ok(Choice::Goes(abort(alloc, moment, &reason, draft)?))
 }
 
 /// A Rollback behind the vote aborts behind a record. Where that is absent the step is undone, and the superior asks
@@ -282,8 +266,8 @@ fn rolls_back_voted(
 {
     let from = cloned_option(&arrived.from)?;
     let reason = Reason::Asked { kind, from };
-    let moving = still(alloc, transaction)?;
-    let stands = abort(alloc, moment, &reason, moving)?;
+    let draft = Draft::begin(alloc, transaction)?;
+    let stands = abort(alloc, moment, &reason, draft)?;
     Ok(or_undone(Record::Ended { id: transaction.id }, stands))
 }
 
@@ -444,19 +428,23 @@ fn with_coordinator(
     Ok(next)
 }
 
-/// A copy of the transaction under this superior, in the phase that follows.
-fn registered_under(
+/// The transaction under this superior, in the phase that follows, at the begin of a step.
+fn registered_under<'a>(
+    alloc: Global,
     superior: Superior,
-    transaction: &Transaction,
-) -> Result<Transaction, AllocError>
+    transaction: &'a Transaction,
+) -> Result<Draft<'a>, AllocError>
     ensures { IfOk result
-        (λ next. next
-        ≡ record transaction.now { superior = Some superior; phase = registered superior transaction.now.phase }) }
+        (λ draft. draft
+        ≡ drafted transaction.entry.now (begin (record transaction.entry.now {
+          superior = Some superior;
+          phase = registered superior transaction.entry.now.phase;
+        }))) }
 {
     let phase = registered(&superior, transaction.phase);
-    let mut next = under(superior, transaction)?;
-    next.phase = phase;
-    Ok(next)
+    let mut draft = Draft::under(alloc, transaction, superior)?;
+    draft.set_phase(phase);
+    Ok(draft)
 }
 
 /// A RegisterResponse that answers a link's Register makes the link Active (WS-Coordination 1.2, section 3.2).
@@ -478,9 +466,8 @@ fn link_registered(
         return Ok(Choice::ignored(alloc));
     }
     let superior = with_coordinator(alloc, kind, superior, coordinator)?;
-    let next = registered_under(superior, transaction)?;
-    let posts = PostList::new(alloc);
-    Ok(Choice::Goes(Turn::silent(alloc, Fate::Put(next), posts)))
+    let draft = registered_under(alloc, superior, transaction)?;
+    Ok(Choice::Goes(draft.stays()))
 }
 
 /// A fault that answers a link's Register aborts the subordinate; every other fault is ignored.
@@ -498,7 +485,7 @@ fn link_faulted(
         ≡ link_fault moment.entry.now relates.now kind superior.now transaction.now) }
 {
     if is_answer(alloc, moment, relates, kind, superior, transaction)? {
-        aborts(alloc, moment, still(alloc, transaction)?)
+        aborts(alloc, moment, Draft::begin(alloc, transaction)?)
     } else {
         Ok(Choice::ignored(alloc))
     }

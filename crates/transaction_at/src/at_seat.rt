@@ -15,9 +15,10 @@ ghost use Rattle.at_model.specs.Seats.{in_state, seat_in};
 ghost use Rattle.transaction_at.specs.Moves.{meant};
 ghost use Rattle.transaction_at.specs.Waits.{has_come};
 
+use crate::draft::Draft;
 use crate::moves::Move;
 use crate::phases::{aborts, advance, ends, forgets};
-use crate::seats::{is_state, only_posts, posting, seat_in, seat_notice, seat_target};
+use crate::seats::{is_state, only_posts, seat_notice, seat_target};
 use crate::transaction::{Enlistment, Phase, Transaction};
 use at_base::event::{Arrived, Moment};
 use at_base::fault::Fault;
@@ -27,7 +28,6 @@ use at_posts::list::PostList;
 use at_posts::posts::{fault_post, stranger_post};
 use at_tables::cells::{Act, State, coordinator_cell};
 use by_id::fates::{Choice, Fate, Turn};
-use by_id::moves::Moving;
 use std::alloc::{AllocError, Global};
 
 /// The seat's own answer, which counts as a sending.
@@ -125,8 +125,7 @@ fn faults_and_aborts(
         ≡ Goes (abort moment.entry.now Alone (post (fault_post (Some seat.now.participant) arrived.now.id InvalidState) (begin transaction.now)))) }
 {
     let posts = fault_alone(alloc, arrived, seat, Fault::InvalidState)?;
-    let next = transaction.clone()?;
-    aborts(alloc, moment, posting(alloc, next, posts))
+    aborts(alloc, moment, Draft::posting(alloc, transaction, posts)?)
 }
 
 /// The seat is in this state, and nothing else is done.
@@ -173,8 +172,8 @@ fn goes_on(
         Phase::Committing => ends(alloc, moment, transaction),
         Phase::Aborting => Ok(forgets(alloc)),
         Phase::Registering | Phase::Active | Phase::Volatile | Phase::Durable | Phase::Voted => {
-            let next = seat_in(transaction, number, state)?;
-            let choice = advance(alloc, moment, Moving::begin(alloc, next))?;
+            let draft = Draft::seat_in(alloc, transaction, number, state)?;
+            let choice = advance(alloc, moment, draft)?;
             Ok(choice)
         }
     }
@@ -211,8 +210,8 @@ fn leaves_and_aborts(
         (λ choice. meant (Some transaction.now) choice
         ≡ Goes (abort moment.entry.now Alone (begin (seat_in seat.now.number states.None transaction.now)))) }
 {
-    let next = seat_in(transaction, seat.number, State::None)?;
-    let choice = aborts(alloc, moment, Moving::begin(alloc, next))?;
+    let draft = Draft::seat_in(alloc, transaction, seat.number, State::None)?;
+    let choice = aborts(alloc, moment, draft)?;
     Ok(choice)
 }
 

@@ -7,6 +7,7 @@ pub mod at_completion;
 pub mod at_link;
 pub mod at_seat;
 mod counts;
+pub mod draft;
 pub mod due;
 mod holders;
 pub mod links;

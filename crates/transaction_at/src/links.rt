@@ -6,8 +6,10 @@ ghost use Rattle.at_tables.specs.declared.cells.State.TheVariants as states;
 ghost use Rattle.at_model.specs.Moves.{posts, become};
 ghost use Rattle.at_model.specs.Posts.{notice_post, to_each};
 ghost use Rattle.at_model.specs.Phases.{upwards};
-ghost use Rattle.at_model.specs.Seats.{link_of, link_in, set_link, ending, initiator_posts, completion_in};
+ghost use Rattle.at_model.specs.Seats.{link_of, link_in, set_link, ending, ending_of, initiator_posts, completion_in};
+ghost use Rattle.transaction_at.specs.Moves.{onto};
 
+use crate::draft::Draft;
 use crate::seats::is_state;
 use crate::transaction::{Completion, Link, Superior, Transaction};
 use at_base::epr::Epr;
@@ -19,7 +21,6 @@ use at_base::target::Target;
 use at_posts::list::PostList;
 use at_posts::posts::notice_post;
 use at_tables::cells::State;
-use by_id::moves::Moving;
 use std::alloc::{AllocError, Global};
 
 impl Superior {
@@ -58,15 +59,21 @@ impl Superior {
     }
 }
 
+/// How a transaction of this id, under this superior, ended.
+pub(crate) fn ending_of(id: Id, superior: &Option<Superior>, what: Ending) -> Effect
+    ensures { result ≡ ending_of superior.now id what }
+{
+    match superior {
+        None => Effect::Root { id, what },
+        Some(_) => Effect::Sub { id, what },
+    }
+}
+
 /// How a transaction ended.
 pub fn ending(transaction: &Transaction, what: Ending) -> Effect
     ensures { result ≡ ending transaction.now what }
 {
-    let id = transaction.id;
-    match &transaction.superior {
-        None => Effect::Root { id, what },
-        Some(_) => Effect::Sub { id, what },
-    }
+    ending_of(transaction.id, &transaction.superior, what)
 }
 
 /// Adds a notification of a link to this endpoint, where there is one.
@@ -150,23 +157,24 @@ fn complete(completion: &mut Option<Completion>, state: State)
 pub fn tell_initiator(
     alloc: Global,
     moment: &Moment,
-    moving: &mut Moving<Transaction>,
+    draft: &mut Draft<'_>,
     notice: Notice,
     state: State,
 ) -> Result<(), AllocError>
     ensures { OnOk result
-        (moving.new
-        ≡ posts (initiator_posts moment.entry.now.base moving.old.item.id notice moving.old.item.completion)
-        (become (record moving.old.item { completion = completion_in state moving.old.item.completion }) moving.old)) }
+        (draft.new
+        ≡ onto (λ m. posts (initiator_posts moment.entry.now.base m.item.id notice m.item.completion)
+        (become (record m.item { completion = completion_in state m.item.completion }) m)) draft.old) }
 {
+    let id = draft.id();
     push_to_initiator(
         alloc,
-        &mut moving.posts,
+        &mut draft.posts,
         moment,
-        moving.item.id,
+        id,
         notice,
-        &moving.item.completion,
+        &draft.item.completion,
     )?;
-    complete(&mut moving.item.completion, state);
+    complete(&mut draft.item.completion, state);
     Ok(())
 }

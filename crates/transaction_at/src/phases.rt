@@ -10,12 +10,13 @@ ghost use Rattle.at_model.specs.Seats.{link_in, prepared};
 ghost use Rattle.at_tables.specs.declared.cells.State.TheVariants as states;
 ghost use Rattle.at_base.specs.declared.notice.Kind.TheVariants as kinds;
 ghost use Rattle.at_model.specs.Phases.{commit_seats, committed, decided, root_answered, voted, sub_answered, durable_answered, if_durable_answered, prepare_seats, go_durable, volatile_answered, ended_posts, all_committed, advance, advance_in, upwards, go_volatile};
-ghost use Rattle.transaction_at.specs.Moves.{meant, turn_of};
+ghost use Rattle.transaction_at.specs.Moves.{meant, onto, turn_of};
 
 use crate::abort::{Reason, abort, until_rolled_back};
-use crate::links::{ending, push_upwards, tell_initiator};
+use crate::draft::Draft;
+use crate::links::{push_upwards, tell_initiator};
 use crate::moves::Move;
-use crate::seats::{Group, has_prepared, is_state, prepared, send_each};
+use crate::seats::{Group, is_state, send_each};
 use crate::transaction::{Phase, Superior, Transaction};
 use at_base::epr::Epr;
 use at_base::event::Moment;
@@ -23,25 +24,24 @@ use at_base::id::Id;
 use at_base::message::cloned_option;
 use at_base::notice::{Kind, Notice};
 use at_base::outs::Ending;
-use at_base::record::{Record, Seats};
+use at_base::record::Record;
 use at_posts::list::PostList;
 use at_tables::cells::State;
 use by_id::fates::{Choice, Fate, Turn};
-use by_id::moves::Moving;
 use std::alloc::{AllocError, Global};
 
 /// Commit to every Prepared seat, in order; the seats then are Committing (section 3.3.3).
-pub fn commit_seats(
+pub(crate) fn commit_seats(
     alloc: Global,
     moment: &Moment,
-    moving: &mut Moving<Transaction>,
+    draft: &mut Draft<'_>,
 ) -> Result<(), AllocError>
-    ensures { OnOk result (moving.new ≡ commit_seats moment.entry.now moving.old) }
+    ensures { OnOk result (draft.new ≡ onto (commit_seats moment.entry.now) draft.old) }
 {
     send_each(
         alloc,
         moment,
-        moving,
+        draft,
         Notice::Commit,
         State::Committing,
         Group::In(State::Prepared),
@@ -50,18 +50,14 @@ pub fn commit_seats(
 
 /// A root's decision: Commit to every Prepared seat, then Committed to the initiator, whose seat is Done from then on.
 #[tactic(auto, unfolding(at_model::specs::Phases::decided))]
-fn decide(
-    alloc: Global,
-    moment: &Moment,
-    moving: &mut Moving<Transaction>,
-) -> Result<(), AllocError>
-    ensures { OnOk result (moving.new ≡ decided moment.entry.now moving.old) }
+fn decide(alloc: Global, moment: &Moment, draft: &mut Draft<'_>) -> Result<(), AllocError>
+    ensures { OnOk result (draft.new ≡ onto (decided moment.entry.now) draft.old) }
 {
-    let what = ending(&moving.item, Ending::Committed);
-    moving.effect(what)?;
-    commit_seats(alloc, moment, moving)?;
-    moving.item.phase = Phase::Committing;
-    tell_initiator(alloc, moment, moving, Notice::Committed, State::Done)
+    let what = draft.ending(Ending::Committed);
+    draft.effect(what)?;
+    commit_seats(alloc, moment, draft)?;
+    draft.set_phase(Phase::Committing);
+    tell_initiator(alloc, moment, draft, Notice::Committed, State::Done)
 }
 
 /// A decided root waits for its durable seats; where none is Prepared nobody waits for it, and it is forgotten.
@@ -69,17 +65,17 @@ fn decide(
 fn committed(
     alloc: Global,
     moment: &Moment,
-    mut moving: Moving<Transaction>,
+    mut draft: Draft<'_>,
 ) -> Result<Turn<Transaction, Move>, AllocError>
-    ensures { (found : Option Known) → IfOk result
-        (λ turn. turn_of found turn ≡ committed moment.entry.now moving) }
+    ensures { IfOk result
+        (λ turn. turn_of (Some draft.entry.lent) turn ≡ committed moment.entry.now draft.entry.course) }
 {
-    let is_awaited = has_prepared(moving.item.seats.as_slice());
-    decide(alloc, moment, &mut moving)?;
+    let is_awaited = draft.has_prepared();
+    decide(alloc, moment, &mut draft)?;
     if is_awaited {
-        Ok(moving.stays())
+        Ok(draft.stays())
     } else {
-        Ok(moving.forgotten())
+        Ok(draft.forgotten())
     }
 }
 
@@ -87,35 +83,21 @@ fn committed(
 fn absent_abort(
     alloc: Global,
     moment: &Moment,
-    moving: &Moving<Transaction>,
+    draft: &Draft<'_>,
 ) -> Result<Turn<Transaction, Move>, AllocError>
-    ensures { (found : Option Known) → IfOk result
-        (λ turn. turn_of found turn ≡ abort moment.entry.now Alone moving.now) }
+    ensures { IfOk result
+        (λ turn. turn_of (Some draft.now.lent) turn ≡ abort moment.entry.now Alone draft.now.course) }
 {
-    abort(alloc, moment, &Reason::Alone, moving.branch()?)
-}
-
-/// The id of the transaction.
-fn id_of(moving: &Moving<Transaction>) -> Id
-    ensures { result ≡ moving.now.item.id }
-{
-    moving.item.id
-}
-
-/// The durable seats that voted Prepared, as a record has them.
-fn prepared_in(alloc: Global, moving: &Moving<Transaction>) -> Result<Seats, AllocError>
-    ensures { IfOk result (λ seats. seats ≡ prepared moving.now.item.seats) }
-{
-    prepared(alloc, moving.item.seats.as_slice())
+    abort(alloc, moment, &Reason::Alone, draft.branch()?)
 }
 
 /// The record of a root's decision.
-fn decision_record(alloc: Global, moving: &Moving<Transaction>) -> Result<Record, AllocError>
+fn decision_record(alloc: Global, draft: &Draft<'_>) -> Result<Record, AllocError>
     ensures { IfOk result
-        (λ entry. entry ≡ records.Decided moving.now.item.id (prepared moving.now.item.seats)) }
+        (λ entry. entry ≡ records.Decided draft.now.course.item.id (prepared draft.now.course.item.seats)) }
 {
-    let id = id_of(moving);
-    let seats = prepared_in(alloc, moving)?;
+    let id = draft.id();
+    let seats = draft.prepared(alloc)?;
     Ok(Record::Decided { id, seats })
 }
 
@@ -125,14 +107,14 @@ fn decision_record(alloc: Global, moving: &Moving<Transaction>) -> Result<Record
 fn root_answered(
     alloc: Global,
     moment: &Moment,
-    moving: Moving<Transaction>,
+    draft: Draft<'_>,
 ) -> Result<Choice<Transaction, Move>, AllocError>
-    ensures { (found : Option Known) → IfOk result
-        (λ choice. meant found choice ≡ root_answered moment.entry.now moving) }
+    ensures { IfOk result
+        (λ choice. meant (Some draft.entry.lent) choice ≡ root_answered moment.entry.now draft.entry.course) }
 {
-    let entry = decision_record(alloc, &moving)?;
-    let absent = absent_abort(alloc, moment, &moving)?;
-    let stands = committed(alloc, moment, moving)?;
+    let entry = decision_record(alloc, &draft)?;
+    let absent = absent_abort(alloc, moment, &draft)?;
+    let stands = committed(alloc, moment, draft)?;
     Ok(Choice::Records {
         entry,
         stands,
@@ -141,16 +123,16 @@ fn root_answered(
 }
 
 /// The transaction has voted, under this superior.
-fn vote(moment: &Moment, transaction: &mut Transaction, superior: Superior)
-    ensures { transaction.new ≡ record transaction.old {
+fn vote(moment: &Moment, draft: &mut Draft<'_>, superior: Superior)
+    ensures { draft.new ≡ onto (λ m. become (record m.item {
       superior = Some superior;
       phase = Stage.Voted;
       sent = Some moment.entry.now.now;
-    } }
+    }) m) draft.old }
 {
-    transaction.superior = Some(superior);
-    transaction.phase = Phase::Voted;
-    transaction.sent = Some(moment.now);
+    draft.item.superior = Some(superior);
+    draft.item.phase = Phase::Voted;
+    draft.item.sent = Some(moment.now);
 }
 
 /// A copy of the superior whose durable link voted Prepared.
@@ -168,21 +150,22 @@ fn vote_upwards(
     alloc: Global,
     moment: &Moment,
     superior: &Superior,
-    moving: &mut Moving<Transaction>,
+    draft: &mut Draft<'_>,
 ) -> Result<(), AllocError>
-    ensures { OnOk result (moving.new ≡ voted moment.entry.now superior.now moving.old) }
+    ensures { OnOk result (draft.new ≡ onto (voted moment.entry.now superior.now) draft.old) }
 {
+    let id = draft.id();
     push_upwards(
         alloc,
-        &mut moving.posts,
+        &mut draft.posts,
         moment,
-        moving.item.id,
+        id,
         Kind::Durable,
         Notice::Prepared,
         &superior.durable,
     )?;
     let next = voted_superior(superior)?;
-    vote(moment, &mut moving.item, next);
+    vote(moment, draft, next);
     Ok(())
 }
 
@@ -191,13 +174,13 @@ fn standing_vote(
     alloc: Global,
     moment: &Moment,
     superior: &Superior,
-    mut moving: Moving<Transaction>,
+    mut draft: Draft<'_>,
 ) -> Result<Turn<Transaction, Move>, AllocError>
-    ensures { (found : Option Known) → IfOk result
-        (λ turn. turn_of found turn ≡ stays (voted moment.entry.now superior.now moving)) }
+    ensures { IfOk result
+        (λ turn. turn_of (Some draft.entry.lent) turn ≡ stays (voted moment.entry.now superior.now draft.entry.course)) }
 {
-    vote_upwards(alloc, moment, superior, &mut moving)?;
-    Ok(moving.stays())
+    vote_upwards(alloc, moment, superior, &mut draft)?;
+    Ok(draft.stays())
 }
 
 /// A subordinate with no seat Prepared votes ReadOnly, and is forgotten.
@@ -205,35 +188,32 @@ fn votes_read_only(
     alloc: Global,
     moment: &Moment,
     superior: &Superior,
-    mut moving: Moving<Transaction>,
+    mut draft: Draft<'_>,
 ) -> Result<Choice<Transaction, Move>, AllocError>
-    ensures { (found : Option Known) → IfOk result
-        (λ choice. meant found choice
-        ≡ Goes (forgotten (posts (upwards moment.entry.now.base moving.item.id kinds.Durable notices.ReadOnly superior.now.durable) moving))) }
+    ensures { IfOk result
+        (λ choice. meant (Some draft.entry.lent) choice
+        ≡ Goes (forgotten (posts (upwards moment.entry.now.base draft.entry.course.item.id kinds.Durable notices.ReadOnly superior.now.durable) draft.entry.course))) }
 {
+    let id = draft.id();
     push_upwards(
         alloc,
-        &mut moving.posts,
+        &mut draft.posts,
         moment,
-        moving.item.id,
+        id,
         Kind::Durable,
         Notice::ReadOnly,
         &superior.durable,
     )?;
-    Ok(Choice::Goes(moving.forgotten()))
+    Ok(Choice::Goes(draft.forgotten()))
 }
 
 /// The record of a subordinate's vote.
-fn vote_record(
-    alloc: Global,
-    coordinator: &Epr,
-    moving: &Moving<Transaction>,
-) -> Result<Record, AllocError>
+fn vote_record(alloc: Global, coordinator: &Epr, draft: &Draft<'_>) -> Result<Record, AllocError>
     ensures { IfOk result
-        (λ entry. entry ≡ records.Voted moving.now.item.id coordinator.now (prepared moving.now.item.seats)) }
+        (λ entry. entry ≡ records.Voted draft.now.course.item.id coordinator.now (prepared draft.now.course.item.seats)) }
 {
-    let id = id_of(moving);
-    let seats = prepared_in(alloc, moving)?;
+    let id = draft.id();
+    let seats = draft.prepared(alloc)?;
     let superior = coordinator.clone()?;
     Ok(Record::Voted {
         id,
@@ -248,17 +228,17 @@ fn records_vote(
     moment: &Moment,
     superior: &Superior,
     coordinator: &Epr,
-    moving: Moving<Transaction>,
+    draft: Draft<'_>,
 ) -> Result<Choice<Transaction, Move>, AllocError>
-    ensures { (found : Option Known) → IfOk result
-        (λ choice. meant found choice
-        ≡ Records (records.Voted moving.item.id coordinator.now (prepared moving.item.seats))
-        (stays (voted moment.entry.now superior.now moving))
-        (Some (abort moment.entry.now Alone moving))) }
+    ensures { IfOk result
+        (λ choice. meant (Some draft.entry.lent) choice
+        ≡ Records (records.Voted draft.entry.course.item.id coordinator.now (prepared draft.entry.course.item.seats))
+        (stays (voted moment.entry.now superior.now draft.entry.course))
+        (Some (abort moment.entry.now Alone draft.entry.course))) }
 {
-    let entry = vote_record(alloc, coordinator, &moving)?;
-    let absent = absent_abort(alloc, moment, &moving)?;
-    let stands = standing_vote(alloc, moment, superior, moving)?;
+    let entry = vote_record(alloc, coordinator, &draft)?;
+    let absent = absent_abort(alloc, moment, &draft)?;
+    let stands = standing_vote(alloc, moment, superior, draft)?;
     Ok(Choice::Records {
         entry,
         stands,
@@ -273,17 +253,17 @@ fn votes(
     moment: &Moment,
     superior: &Superior,
     coordinator: &Epr,
-    moving: Moving<Transaction>,
+    draft: Draft<'_>,
 ) -> Result<Choice<Transaction, Move>, AllocError>
-    ensures { (found : Option Known) → IfOk result
-        (λ choice. meant found choice
-        ≡ sub_answered moment.entry.now superior.now (Some coordinator.now) moving) }
+    ensures { IfOk result
+        (λ choice. meant (Some draft.entry.lent) choice
+        ≡ sub_answered moment.entry.now superior.now (Some coordinator.now) draft.entry.course) }
 {
-    if has_prepared(moving.item.seats.as_slice()) {
-        let choice = records_vote(alloc, moment, superior, coordinator, moving)?;
+    if draft.has_prepared() {
+        let choice = records_vote(alloc, moment, superior, coordinator, draft)?;
         Ok(choice)
     } else {
-        votes_read_only(alloc, moment, superior, moving)
+        votes_read_only(alloc, moment, superior, draft)
     }
 }
 
@@ -293,43 +273,43 @@ fn sub_answered(
     alloc: Global,
     moment: &Moment,
     superior: &Superior,
-    moving: Moving<Transaction>,
+    draft: Draft<'_>,
 ) -> Result<Choice<Transaction, Move>, AllocError>
-    ensures { (found : Option Known) → IfOk result
-        (λ choice. meant found choice
-        ≡ sub_answered moment.entry.now superior.now superior.now.durable.coordinator moving) }
+    ensures { IfOk result
+        (λ choice. meant (Some draft.entry.lent) choice
+        ≡ sub_answered moment.entry.now superior.now superior.now.durable.coordinator draft.entry.course) }
 {
     match &superior.durable.coordinator {
-        None => aborts(alloc, moment, moving),
-        Some(coordinator) => votes(alloc, moment, superior, coordinator, moving),
+        None => aborts(alloc, moment, draft),
+        Some(coordinator) => votes(alloc, moment, superior, coordinator, draft),
     }
 }
 
 /// The transaction aborts on its own.
-pub fn aborts(
+pub(crate) fn aborts(
     alloc: Global,
     moment: &Moment,
-    moving: Moving<Transaction>,
+    draft: Draft<'_>,
 ) -> Result<Choice<Transaction, Move>, AllocError>
-    ensures { (found : Option Known) → IfOk result
-        (λ choice. meant found choice ≡ Goes (abort moment.entry.now Alone moving)) }
+    ensures { IfOk result
+        (λ choice. meant (Some draft.entry.lent) choice ≡ Goes (abort moment.entry.now Alone draft.entry.course)) }
 {
-    Ok(Choice::Goes(abort(alloc, moment, &Reason::Alone, moving)?))
+    Ok(Choice::Goes(abort(alloc, moment, &Reason::Alone, draft)?))
 }
 
 /// Every durable seat has answered.
 fn durable_answered(
     alloc: Global,
     moment: &Moment,
-    moving: Moving<Transaction>,
+    draft: Draft<'_>,
 ) -> Result<Choice<Transaction, Move>, AllocError>
-    ensures { (found : Option Known) → IfOk result
-        (λ choice. meant found choice ≡ durable_answered moment.entry.now moving.item.superior moving) }
+    ensures { IfOk result
+        (λ choice. meant (Some draft.entry.lent) choice ≡ durable_answered moment.entry.now draft.entry.course.item.superior draft.entry.course) }
 {
-    let superior = cloned_option(&moving.item.superior)?;
+    let superior = cloned_option(&draft.item.superior)?;
     match superior {
-        None => root_answered(alloc, moment, moving),
-        Some(superior) => sub_answered(alloc, moment, &superior, moving),
+        None => root_answered(alloc, moment, draft),
+        Some(superior) => sub_answered(alloc, moment, &superior, draft),
     }
 }
 
@@ -337,15 +317,15 @@ fn durable_answered(
 fn if_durable_answered(
     alloc: Global,
     moment: &Moment,
-    moving: Moving<Transaction>,
+    draft: Draft<'_>,
 ) -> Result<Choice<Transaction, Move>, AllocError>
-    ensures { (found : Option Known) → IfOk result
-        (λ choice. meant found choice ≡ if_durable_answered moment.entry.now moving) }
+    ensures { IfOk result
+        (λ choice. meant (Some draft.entry.lent) choice ≡ if_durable_answered moment.entry.now draft.entry.course) }
 {
-    if moving.item.seats.answered(Kind::Durable) {
-        durable_answered(alloc, moment, moving)
+    if draft.answered(Kind::Durable) {
+        durable_answered(alloc, moment, draft)
     } else {
-        Ok(Choice::Goes(moving.stays()))
+        Ok(Choice::Goes(draft.stays()))
     }
 }
 
@@ -354,9 +334,9 @@ fn prepare_seats(
     alloc: Global,
     moment: &Moment,
     kind: Kind,
-    moving: &mut Moving<Transaction>,
+    draft: &mut Draft<'_>,
 ) -> Result<(), AllocError>
-    ensures { OnOk result (moving.new ≡ prepare_seats moment.entry.now kind moving.old) }
+    ensures { OnOk result (draft.new ≡ onto (prepare_seats moment.entry.now kind) draft.old) }
 {
     let group = Group::Of {
         kind,
@@ -365,7 +345,7 @@ fn prepare_seats(
     send_each(
         alloc,
         moment,
-        moving,
+        draft,
         Notice::Prepare,
         State::Preparing,
         group,
@@ -377,23 +357,23 @@ fn prepare_seats(
 fn go_durable(
     alloc: Global,
     moment: &Moment,
-    mut moving: Moving<Transaction>,
+    mut draft: Draft<'_>,
 ) -> Result<Choice<Transaction, Move>, AllocError>
-    ensures { (found : Option Known) → IfOk result
-        (λ choice. meant found choice ≡ go_durable moment.entry.now moving) }
+    ensures { IfOk result
+        (λ choice. meant (Some draft.entry.lent) choice ≡ go_durable moment.entry.now draft.entry.course) }
 {
-    moving.item.phase = Phase::Durable;
-    prepare_seats(alloc, moment, Kind::Durable, &mut moving)?;
-    let choice = if_durable_answered(alloc, moment, moving)?;
+    draft.set_phase(Phase::Durable);
+    prepare_seats(alloc, moment, Kind::Durable, &mut draft)?;
+    let choice = if_durable_answered(alloc, moment, draft)?;
     Ok(choice)
 }
 
 /// The transaction is Active again, under this superior.
-fn reactivate(transaction: &mut Transaction, superior: Superior)
-    ensures { transaction.new ≡ record transaction.old { superior = Some superior; phase = Stage.Active } }
+fn reactivate(draft: &mut Draft<'_>, superior: Superior)
+    ensures { draft.new ≡ onto (λ m. become (record m.item { superior = Some superior; phase = Stage.Active }) m) draft.old }
 {
-    transaction.superior = Some(superior);
-    transaction.phase = Phase::Active;
+    draft.item.superior = Some(superior);
+    draft.item.phase = Phase::Active;
 }
 
 /// A volatile link that was asked answers ReadOnly, and the transaction is Active again.
@@ -401,28 +381,29 @@ fn answers_volatile_link(
     alloc: Global,
     moment: &Moment,
     mut superior: Superior,
-    mut moving: Moving<Transaction>,
+    mut draft: Draft<'_>,
 ) -> Result<Choice<Transaction, Move>, AllocError>
-    ensures { (found : Option Known) → IfOk result
-        (λ choice. meant found choice
-        ≡ Goes (stays (posts (upwards moment.entry.now.base moving.item.id kinds.Volatile notices.ReadOnly superior.volatile)
-        (become (record moving.item {
+    ensures { IfOk result
+        (λ choice. meant (Some draft.entry.lent) choice
+        ≡ Goes (stays (posts (upwards moment.entry.now.base draft.entry.course.item.id kinds.Volatile notices.ReadOnly superior.volatile)
+        (become (record draft.entry.course.item {
           superior = Some (link_in kinds.Volatile states.None superior);
           phase = Stage.Active;
-        }) moving)))) }
+        }) draft.entry.course)))) }
 {
+    let id = draft.id();
     push_upwards(
         alloc,
-        &mut moving.posts,
+        &mut draft.posts,
         moment,
-        moving.item.id,
+        id,
         Kind::Volatile,
         Notice::ReadOnly,
         &superior.volatile,
     )?;
     superior.move_link(Kind::Volatile, State::None);
-    reactivate(&mut moving.item, superior);
-    Ok(Choice::Goes(moving.stays()))
+    reactivate(&mut draft, superior);
+    Ok(Choice::Goes(draft.stays()))
 }
 
 /// Every volatile seat of a subordinate has answered.
@@ -431,18 +412,18 @@ fn sub_volatile_answered(
     alloc: Global,
     moment: &Moment,
     superior: Superior,
-    moving: Moving<Transaction>,
+    draft: Draft<'_>,
 ) -> Result<Choice<Transaction, Move>, AllocError>
-    ensures { (found : Option Known) → IfOk result
-        (λ choice. meant found choice ≡ volatile_answered moment.entry.now (Some superior) moving) }
+    ensures { IfOk result
+        (λ choice. meant (Some draft.entry.lent) choice ≡ volatile_answered moment.entry.now (Some superior) draft.entry.course) }
 {
     if is_state(superior.volatile.state, State::Preparing) {
-        return answers_volatile_link(alloc, moment, superior, moving);
+        return answers_volatile_link(alloc, moment, superior, draft);
     }
     if is_state(superior.durable.state, State::Preparing) {
-        return go_durable(alloc, moment, moving);
+        return go_durable(alloc, moment, draft);
     }
-    Ok(Choice::Goes(moving.stays()))
+    Ok(Choice::Goes(draft.stays()))
 }
 
 /// Every volatile seat has answered: a volatile link that was asked answers; a root, or a durable link that was asked,
@@ -451,15 +432,15 @@ fn sub_volatile_answered(
 fn volatile_answered(
     alloc: Global,
     moment: &Moment,
-    moving: Moving<Transaction>,
+    draft: Draft<'_>,
 ) -> Result<Choice<Transaction, Move>, AllocError>
-    ensures { (found : Option Known) → IfOk result
-        (λ choice. meant found choice ≡ volatile_answered moment.entry.now moving.item.superior moving) }
+    ensures { IfOk result
+        (λ choice. meant (Some draft.entry.lent) choice ≡ volatile_answered moment.entry.now draft.entry.course.item.superior draft.entry.course) }
 {
-    let superior = cloned_option(&moving.item.superior)?;
+    let superior = cloned_option(&draft.item.superior)?;
     match superior {
-        None => go_durable(alloc, moment, moving),
-        Some(superior) => sub_volatile_answered(alloc, moment, superior, moving),
+        None => go_durable(alloc, moment, draft),
+        Some(superior) => sub_volatile_answered(alloc, moment, superior, draft),
     }
 }
 
@@ -468,15 +449,15 @@ fn volatile_answered(
 fn if_volatile_answered(
     alloc: Global,
     moment: &Moment,
-    moving: Moving<Transaction>,
+    draft: Draft<'_>,
 ) -> Result<Choice<Transaction, Move>, AllocError>
-    ensures { (found : Option Known) → IfOk result
-        (λ choice. meant found choice ≡ advance_in moment.entry.now Stage.Volatile moving) }
+    ensures { IfOk result
+        (λ choice. meant (Some draft.entry.lent) choice ≡ advance_in moment.entry.now Stage.Volatile draft.entry.course) }
 {
-    if moving.item.seats.answered(Kind::Volatile) {
-        volatile_answered(alloc, moment, moving)
+    if draft.answered(Kind::Volatile) {
+        volatile_answered(alloc, moment, draft)
     } else {
-        Ok(Choice::Goes(moving.stays()))
+        Ok(Choice::Goes(draft.stays()))
     }
 }
 
@@ -505,22 +486,13 @@ fn push_ended(
 }
 
 /// Committed to the superior, where there is one.
-fn tell_superior(
-    alloc: Global,
-    moment: &Moment,
-    moving: &mut Moving<Transaction>,
-) -> Result<(), AllocError>
+fn tell_superior(alloc: Global, moment: &Moment, draft: &mut Draft<'_>) -> Result<(), AllocError>
     ensures { OnOk result
-        (moving.new
-        ≡ posts (ended_posts moment.entry.now.base moving.old.item.id moving.old.item.superior) moving.old) }
+        (draft.new
+        ≡ onto (λ m. posts (ended_posts moment.entry.now.base m.item.id m.item.superior) m) draft.old) }
 {
-    push_ended(
-        alloc,
-        &mut moving.posts,
-        moment,
-        moving.item.id,
-        &moving.item.superior,
-    )
+    let id = draft.id();
+    push_ended(alloc, &mut draft.posts, moment, id, &draft.item.superior)
 }
 
 /// What is done behind a record, and undone where that is absent.
@@ -540,14 +512,14 @@ pub fn or_undone(entry: Record, stands: Turn<Transaction, Move>) -> Choice<Trans
 fn all_committed(
     alloc: Global,
     moment: &Moment,
-    mut moving: Moving<Transaction>,
+    mut draft: Draft<'_>,
 ) -> Result<Choice<Transaction, Move>, AllocError>
-    ensures { (found : Option Known) → IfOk result
-        (λ choice. meant found choice ≡ all_committed moment.entry.now moving) }
+    ensures { IfOk result
+        (λ choice. meant (Some draft.entry.lent) choice ≡ all_committed moment.entry.now draft.entry.course) }
 {
-    tell_superior(alloc, moment, &mut moving)?;
-    let id = id_of(&moving);
-    Ok(or_undone(Record::Ended { id }, moving.forgotten()))
+    tell_superior(alloc, moment, &mut draft)?;
+    let id = draft.id();
+    Ok(or_undone(Record::Ended { id }, draft.forgotten()))
 }
 
 /// Every durable seat has left after the decision, and the transaction is forgotten as it stands.
@@ -587,49 +559,49 @@ pub fn forgets(alloc: Global) -> Choice<Transaction, Move>
 fn if_all_left(
     alloc: Global,
     moment: &Moment,
-    moving: Moving<Transaction>,
+    draft: Draft<'_>,
 ) -> Result<Choice<Transaction, Move>, AllocError>
-    ensures { (found : Option Known) → IfOk result
-        (λ choice. meant found choice ≡ advance_in moment.entry.now Stage.Committing moving) }
+    ensures { IfOk result
+        (λ choice. meant (Some draft.entry.lent) choice ≡ advance_in moment.entry.now Stage.Committing draft.entry.course) }
 {
-    if moving.item.seats.all_left() {
-        all_committed(alloc, moment, moving)
+    if draft.all_left() {
+        all_committed(alloc, moment, draft)
     } else {
-        Ok(Choice::Goes(moving.stays()))
+        Ok(Choice::Goes(draft.stays()))
     }
 }
 
 /// Goes on, where what the transaction's phase waits for has come.
 #[tactic(auto, unfolding(at_model::specs::Phases::advance_in))]
-pub fn advance(
+pub(crate) fn advance(
     alloc: Global,
     moment: &Moment,
-    moving: Moving<Transaction>,
+    draft: Draft<'_>,
 ) -> Result<Choice<Transaction, Move>, AllocError>
-    ensures { (found : Option Known) → IfOk result
-        (λ choice. meant found choice ≡ advance moment.entry.now moving) }
+    ensures { IfOk result
+        (λ choice. meant (Some draft.entry.lent) choice ≡ advance moment.entry.now draft.entry.course) }
 {
-    match moving.item.phase {
-        Phase::Registering | Phase::Active | Phase::Voted => Ok(Choice::Goes(moving.stays())),
-        Phase::Volatile => if_volatile_answered(alloc, moment, moving),
-        Phase::Durable => if_durable_answered(alloc, moment, moving),
-        Phase::Committing => if_all_left(alloc, moment, moving),
-        Phase::Aborting => Ok(Choice::Goes(until_rolled_back(moving))),
+    match draft.item.phase {
+        Phase::Registering | Phase::Active | Phase::Voted => Ok(Choice::Goes(draft.stays())),
+        Phase::Volatile => if_volatile_answered(alloc, moment, draft),
+        Phase::Durable => if_durable_answered(alloc, moment, draft),
+        Phase::Committing => if_all_left(alloc, moment, draft),
+        Phase::Aborting => Ok(Choice::Goes(until_rolled_back(draft))),
     }
 }
 
 /// The first phase of asking: Prepare to the volatile seats (section 3.3.1).
 #[tactic(auto, unfolding(at_model::specs::Phases::go_volatile))]
-pub fn go_volatile(
+pub(crate) fn go_volatile(
     alloc: Global,
     moment: &Moment,
-    mut moving: Moving<Transaction>,
+    mut draft: Draft<'_>,
 ) -> Result<Choice<Transaction, Move>, AllocError>
-    ensures { (found : Option Known) → IfOk result
-        (λ choice. meant found choice ≡ go_volatile moment.entry.now moving) }
+    ensures { IfOk result
+        (λ choice. meant (Some draft.entry.lent) choice ≡ go_volatile moment.entry.now draft.entry.course) }
 {
-    moving.item.phase = Phase::Volatile;
-    prepare_seats(alloc, moment, Kind::Volatile, &mut moving)?;
-    let choice = advance(alloc, moment, moving)?;
+    draft.set_phase(Phase::Volatile);
+    prepare_seats(alloc, moment, Kind::Volatile, &mut draft)?;
+    let choice = advance(alloc, moment, draft)?;
     Ok(choice)
 }

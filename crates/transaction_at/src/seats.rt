@@ -1,31 +1,31 @@
 //! The seats of a transaction: tests, and small changes.
 
-ghost use Rattle.std.specs.Prelude.{◌≡◌, ◌++◌, ◌||◌, IfOk, OnOk, Some};
+ghost use Rattle.std.specs.Prelude.{◌≡◌, ◌++◌, ◌∷◌, ◌||◌, [], IfOk, OnOk, Some};
 ghost use Rattle.std.specs.List.{list_any};
 ghost use Rattle.at_tables.specs.Names.{state_place, is_state};
 ghost use Rattle.at_tables.specs.declared.cells.State.TheVariants as states;
 ghost use Rattle.at_model.specs.Book.{Transaction as Known};
-ghost use Rattle.at_model.specs.Moves.{Goes, begin, effect, posts, stays};
+ghost use Rattle.at_model.specs.Moves.{Goes, become, begin, posts, stays};
 ghost use Rattle.at_model.specs.Posts.{notice_post};
-ghost use Rattle.at_model.specs.Seats.{is_prepared_durable, prepared, seated, seat_target, notices_to, sent_to, send_each, seat_in, moved};
+ghost use Rattle.at_model.specs.Seats.{prepared, seated, seat_target, notices_to, sent_to, send_each, moved};
 ghost use Rattle.transaction_at.specs.Groups.{belongs, stands};
-ghost use Rattle.transaction_at.specs.Moves.{meant};
+ghost use Rattle.transaction_at.specs.Moves.{meant, onto, seat_behind, seats_behind};
 ghost use Rattle.transaction_at.specs.declared.seats.Group.TheVariants as groups;
 
+use crate::draft::Draft;
 use crate::due::unanswered_seat;
-use crate::moves::Move;
+use crate::moves::{Move, SeatMove, state_behind};
 use crate::transaction::{Enlistment, Transaction};
 use at_base::event::Moment;
 use at_base::id::Id;
 use at_base::notice::{Kind, Notice, is_kind};
-use at_base::outs::{Effect, Effects, Post};
+use at_base::outs::Post;
 use at_base::record::{Seated, Seats};
 use at_base::target::{Seat, Target};
 use at_posts::list::PostList;
 use at_posts::posts::notice_post;
 use at_tables::cells::State;
 use by_id::fates::{Choice, Fate, Turn};
-use by_id::moves::Moving;
 use std::alloc::{AllocError, Global};
 
 /// Seats that are told or moved together.
@@ -114,27 +114,28 @@ pub fn belongs(seat: &Enlistment, group: Group) -> bool
     stands(seat.kind, seat.state, group)
 }
 
-/// Whether a seat of the group is among these.
-pub fn has_any(seats: &[Enlistment], group: Group) -> bool
-    ensures { result ≡ list_any (belongs group) seats.now }
+/// Whether a seat is in the group behind these moves.
+#[tactic(auto, using(crate::proofs::SeatCounts::stands_so))]
+fn belongs_behind(seat: &Enlistment, moves: &[SeatMove], group: Group) -> bool
+    ensures { result ≡ belongs group (seat_behind moves.now seat.now) }
+{
+    stands(seat.kind, state_behind(seat, moves), group)
+}
+
+/// Whether a seat of the group is among these, behind these moves.
+pub(crate) fn has_any(seats: &[Enlistment], moves: &[SeatMove], group: Group) -> bool
+    ensures { result ≡ list_any (belongs group) (seats_behind moves.now seats.now) }
 {
     for seat in seats {
-        if belongs(seat, group) {
+        if belongs_behind(seat, moves, group) {
             return true;
         }
     }
     false
 }
 
-/// Whether a durable seat voted Prepared.
-pub fn has_prepared(seats: &[Enlistment]) -> bool
-    ensures { result ≡ list_any is_prepared_durable seats.now }
-{
-    has_any(seats, PREPARED_DURABLE)
-}
-
 /// The durable seats that voted Prepared.
-const PREPARED_DURABLE: Group = Group::Of {
+pub(crate) const PREPARED_DURABLE: Group = Group::Of {
     kind: Kind::Durable,
     state: State::Prepared,
 };
@@ -149,17 +150,30 @@ fn seated(seat: &Enlistment) -> Result<Seated, AllocError>
     })
 }
 
-/// The durable seats that voted Prepared, as a record has them.
-pub fn prepared(alloc: Global, seats: &[Enlistment]) -> Result<Seats, AllocError>
-    ensures { IfOk result (λ list. list ≡ prepared seats.now) }
+/// The durable seats that voted Prepared by these moves, as a record has them.
+pub(crate) fn prepared(
+    alloc: Global,
+    seats: &[Enlistment],
+    moves: &[SeatMove],
+) -> Result<Seats, AllocError>
+    ensures { IfOk result (λ list. list ≡ prepared (seats_behind moves.now seats.now)) }
 {
     let mut list = Seats::from_vec(Vec::new(alloc));
     for seat in seats {
-        if belongs(seat, PREPARED_DURABLE) {
-            list.push(seated(seat)?)?;
-        }
+        push_prepared(&mut list, seat, moves)?;
     }
     Ok(list)
+}
+
+/// Adds the seat, where it is durable and voted Prepared by these moves.
+#[tactic(auto, using(crate::proofs::Drafts::seated_behind))]
+fn push_prepared(list: &mut Seats, seat: &Enlistment, moves: &[SeatMove]) -> Result<(), AllocError>
+    ensures { OnOk result (list.new ≡ list.old ++ prepared (seat_behind moves.now seat.now ∷ [])) }
+{
+    if belongs_behind(seat, moves, PREPARED_DURABLE) {
+        list.push(seated(seat)?)?;
+    }
+    Ok(())
 }
 
 /// What a seat's endpoint names.
@@ -191,96 +205,122 @@ pub fn seat_notice(
     notice_post(alloc, &moment.base, &own, &seat.participant, notice)
 }
 
-/// Adds a notification to each seat of the group, in order.
-pub fn push_notices(
+/// Adds a notification to the seat, where it is in the group behind these moves.
+#[tactic(auto, using(crate::proofs::Drafts::told_behind))]
+fn push_notice(
+    alloc: Global,
+    posts: &mut PostList,
+    moment: &Moment,
+    id: Id,
+    notice: Notice,
+    seat: &Enlistment,
+    moves: &[SeatMove],
+    group: Group,
+) -> Result<(), AllocError>
+    ensures { OnOk result
+        (posts.new
+        ≡ posts.old
+        ++ notices_to moment.entry.now.base id notice (seat_behind moves.now seat.now ∷ []) (belongs group)) }
+{
+    if belongs_behind(seat, moves, group) {
+        posts.push(seat_notice(alloc, moment, id, seat, notice)?)?;
+    }
+    Ok(())
+}
+
+/// Adds a notification to each seat of the group behind these moves, in order.
+fn push_notices(
     alloc: Global,
     posts: &mut PostList,
     moment: &Moment,
     id: Id,
     notice: Notice,
     seats: &[Enlistment],
+    moves: &[SeatMove],
     group: Group,
 ) -> Result<(), AllocError>
     ensures { OnOk result
-        (posts.new ≡ posts.old ++ notices_to moment.entry.now.base id notice seats.now (belongs group)) }
+        (posts.new
+        ≡ posts.old
+        ++ notices_to moment.entry.now.base id notice (seats_behind moves.now seats.now) (belongs group)) }
 {
     for seat in seats {
-        if belongs(seat, group) {
-            posts.push(seat_notice(alloc, moment, id, seat, notice)?)?;
-        }
+        push_notice(alloc, posts, moment, id, notice, seat, moves, group)?;
     }
     Ok(())
 }
 
-/// When the transaction last sent: now, where it sends to a seat of the group.
-fn sent_to(moment: &Moment, before: Option<u64>, seats: &[Enlistment], group: Group) -> Option<u64>
-    ensures { result ≡ sent_to moment.entry.now.now before seats.now (belongs group) }
+/// The notifications of a draft to each seat of the group, in order.
+fn push_all(
+    alloc: Global,
+    moment: &Moment,
+    draft: &mut Draft<'_>,
+    notice: Notice,
+    group: Group,
+) -> Result<(), AllocError>
+    ensures { OnOk result
+        (draft.new
+        ≡ onto (λ m. posts (notices_to moment.entry.now.base m.item.id notice m.item.seats (belongs group)) m) draft.old) }
 {
-    if has_any(seats, group) {
+    let lent = draft.lent;
+    push_notices(
+        alloc,
+        &mut draft.posts,
+        moment,
+        lent.id,
+        notice,
+        lent.seats.as_slice(),
+        draft.item.seats.as_slice(),
+        group,
+    )
+}
+
+/// When a draft's transaction last sent: now, where it sends to a seat of the group.
+fn sent_to(moment: &Moment, draft: &Draft<'_>, group: Group) -> Option<u64>
+    ensures { result
+        ≡ sent_to moment.entry.now.now draft.now.course.item.sent draft.now.course.item.seats (belongs group) }
+{
+    if draft.has_any(group) {
         Some(moment.now)
     } else {
-        before
+        draft.item.sent
     }
 }
 
 /// Moves the seats of the group into this state; the transaction sends to them now.
-fn move_sent(moment: &Moment, transaction: &mut Transaction, group: Group, state: State)
-    ensures { transaction.new ≡ record transaction.old {
-      seats = moved (belongs group) state transaction.old.seats;
-      sent = sent_to moment.entry.now.now transaction.old.sent transaction.old.seats (belongs group);
-    } }
+fn move_sent(
+    moment: &Moment,
+    draft: &mut Draft<'_>,
+    group: Group,
+    state: State,
+) -> Result<(), AllocError>
+    ensures { OnOk result
+        (draft.new
+        ≡ onto (λ m. become (record m.item {
+          seats = moved (belongs group) state m.item.seats;
+          sent = sent_to moment.entry.now.now m.item.sent m.item.seats (belongs group);
+        }) m) draft.old) }
 {
-    transaction.sent = sent_to(
-        moment,
-        transaction.sent,
-        transaction.seats.as_slice(),
-        group,
-    );
-    transaction.seats.move_each(group, state);
+    let sent = sent_to(moment, draft, group);
+    draft.move_seats(SeatMove::Each { group, state })?;
+    draft.item.sent = sent;
+    Ok(())
 }
 
 /// Each seat of the group goes into this state and is sent the notification.
-pub fn send_each(
+pub(crate) fn send_each(
     alloc: Global,
     moment: &Moment,
-    moving: &mut Moving<Transaction>,
+    draft: &mut Draft<'_>,
     notice: Notice,
     state: State,
     group: Group,
 ) -> Result<(), AllocError>
-    ensures { OnOk result (moving.new ≡ send_each moment.entry.now notice state (belongs group) moving.old) }
+    ensures { OnOk result
+        (draft.new ≡ onto (send_each moment.entry.now notice state (belongs group)) draft.old) }
 {
-    push_notices(
-        alloc,
-        &mut moving.posts,
-        moment,
-        moving.item.id,
-        notice,
-        moving.item.seats.as_slice(),
-        group,
-    )?;
-    move_sent(moment, &mut moving.item, group, state);
-    Ok(())
-}
-
-/// A copy of the transaction with the seat of this number in this state.
-pub fn seat_in(
-    transaction: &Transaction,
-    number: u16,
-    state: State,
-) -> Result<Transaction, AllocError>
-    ensures { IfOk result (λ next. next ≡ seat_in number state transaction.now) }
-{
-    let mut next = transaction.clone()?;
-    next.seats.set_state(number, state);
-    Ok(next)
-}
-
-/// The transaction at the begin of a step.
-pub fn still(alloc: Global, transaction: &Transaction) -> Result<Moving<Transaction>, AllocError>
-    ensures { IfOk result (λ moving. moving ≡ begin transaction.now) }
-{
-    Ok(Moving::begin(alloc, transaction.clone()?))
+    push_all(alloc, moment, draft, notice, group)?;
+    move_sent(moment, draft, group, state)
 }
 
 /// This is posted, and the transaction stays as it is.
@@ -289,32 +329,4 @@ pub fn only_posts(alloc: Global, list: PostList) -> Choice<Transaction, Move>
         ≡ Goes (stays (posts list (begin transaction))) }
 {
     Choice::Goes(Turn::silent(alloc, Fate::Keep, list))
-}
-
-/// The transaction at the begin of a step that posts this.
-pub fn posting(alloc: Global, transaction: Transaction, list: PostList) -> Moving<Transaction>
-    ensures { result ≡ posts list (begin transaction) }
-{
-    Moving {
-        item: transaction,
-        posts: list,
-        effects: Effects::from_vec(Vec::new(alloc)),
-    }
-}
-
-/// The transaction at the begin of a step in which this happened.
-pub fn happening(
-    alloc: Global,
-    transaction: Transaction,
-    what: Effect,
-) -> Result<Moving<Transaction>, AllocError>
-    ensures { IfOk result (λ moving. moving ≡ effect what (begin transaction)) }
-{
-    let mut effects = Effects::from_vec(Vec::new(alloc));
-    effects.push(what)?;
-    Ok(Moving {
-        item: transaction,
-        posts: PostList::new(alloc),
-        effects,
-    })
 }

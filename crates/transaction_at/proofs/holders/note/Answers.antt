@@ -1,4 +1,4 @@
-use Rattle.std.proofs.Common.{ℕ, List, rules, sym, subst, ap, ◌∙◌, ◌≡◌, ◌++◌, ◌∷◌, [], length, insert, true, false}
+use Rattle.std.proofs.Common.{rules, sym, subst, ◌∙◌, ◌≡◌, ◌++◌, ◌∷◌, [], length, insert, true, false}
 use Rattle.std.specs.Prelude.{slice_get}
 use Rattle.transaction_at.specs.Filed.{IsFiled, passes, ties}
 use Rattle.transaction_at.specs.Holders.{Holder, holders, rank}

@@ -1,6 +1,5 @@
-use Rattle.std.proofs.Common.{ℕ, rules, sym, ◌∙◌, ◌≡◌, ◌<◌, length, get_or, true, false}
-use Rattle.transaction_at.specs.Filed.{ties}
-use Rattle.transaction_at.specs.Holders.{Holder, holders, rank}
+use Rattle.std.proofs.Common.{rules, sym, ◌∙◌}
+use Rattle.transaction_at.specs.Holders.{Holder}
 use Rattle.transaction_at.proofs.SeatHolders.{seat_absent, seat_found, seat_other}
 use Rattle.transaction_at.proofs.holders.seat_of.Goals as goal
 
