@@ -110,6 +110,7 @@ moved_id (moves_of.Enlisted s sent room) t = either (has_room room t.seats)
     either true = refl
     either false = refl
 moved_id (moves_of.Initiator completion) t = refl
+moved_id (moves_of.Changed changes) t = refl
 
 registers_at : (b : Book) (now : ℕ) (id : Numbers) (t : Transaction) (g : Registered) → transaction_at b id ≡ Some t → whole b now (registered t.id g) ≡ plain (registration_outcome b now (registration_of t g))
 registers_at b now id t g e = by g.change
