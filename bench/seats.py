@@ -2,14 +2,19 @@
 """Times transactions of many seats, and ticks at which many transactions are due or none is, at nodes on machines in memory, in one run.
 
 Usage: bench/seats.py [ROUNDS]
+       bench/seats.py --count
 
 The program `schedule_loop` plays schedules over nodes that serve. First one transaction with 1, 8, 64 and 512 durable
 participants, from its begin to the last Committed: `messages` is how many were delivered, `growth` how its time grew over
 that of the row before it, beside how its seats grew. Then a tick at a coordinator with 1, 128 and 1,024 live transactions,
 none of which is due, and all of which are, since they expire: the time of the tick alone, which is what a run with it takes
 more than one without it. Each time is the least of ROUNDS runs (default 5), net of that of a process's start.
+
+With --count it counts the instructions of one run of each, by valgrind, in place of times: what else the machine does
+changes nothing of them.
 """
 import os
+import re
 import subprocess
 import sys
 import time
@@ -44,7 +49,32 @@ def least(rounds, lines):
     return min(run(lines)[0] for _ in range(rounds))
 
 
+def instructions(lines):
+    """How many instructions a run takes, in millions."""
+    words = ["valgrind", "--tool=callgrind", f"--callgrind-out-file={os.devnull}", PROGRAM]
+    done = subprocess.run(words, input=("\n".join(lines) + "\n").encode(), capture_output=True, check=True)
+    return int(re.search(rb"Collected : (\d+)", done.stderr).group(1)) / 1e6
+
+
+def count():
+    started = instructions(["nodes 1"])
+    print(f"{'seats':<8}{'millions':>10}{'a seat':>10}{'growth':>10}{'of seats':>10}")
+    before = None
+    for seats in SEATS:
+        spent = instructions(voted(seats)) - started
+        growth, of = ("", "") if before is None else (f"{spent / before[1]:.2f}", f"{seats / before[0]:.2f}")
+        print(f"{seats:<8}{spent:>10.1f}{spent / seats:>10.2f}{growth:>10}{of:>10}")
+        before = seats, spent
+    print(f"{'live':<8}{'due':>10}{'millions':>10}{'an item':>10}")
+    for live in LIVE:
+        for due, ms in (("none", 4_000_000_000), ("all", 60_000)):
+            spent = instructions(held(live, ms, [70_000])) - instructions(held(live, ms, []))
+            print(f"{live:<8}{due:>10}{spent:>10.2f}{spent / live:>10.4f}")
+
+
 def main():
+    if sys.argv[1:] == ["--count"]:
+        return count()
     rounds = int(sys.argv[1]) if len(sys.argv) > 1 else 5
     if not os.access(PROGRAM, os.X_OK):
         sys.exit("bench: build the program first: rt run in crates/schedule_loop")
