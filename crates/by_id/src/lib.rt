@@ -3,7 +3,7 @@
 #![tactic(auto)]
 
 pub mod fates;
-pub mod ids;
+mod ids;
 pub mod list;
 pub mod place;
 pub mod plan;

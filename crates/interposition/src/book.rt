@@ -601,7 +601,7 @@ impl Book {
         ensures book { self.new ≡ done plan landed self.old }
         ensures outs { result ≡ sent plan landed }
     {
-        let Plan { now, part } = plan;
+        let (now, part) = plan.into_parts();
         match part {
             Part::Still { noted, outs } => {
                 self.note(noted, now);

@@ -22,11 +22,19 @@ pub enum Part {
 }
 
 /// What an event does to a book: at once, or behind one record.
-#[derive(Drop)]
 pub struct Plan {
     /// The clock's time, in milliseconds.
     pub now: u64,
     pub part: Part,
+}
+
+impl Drop for Plan {
+    fn drop(self) {
+        let Plan {
+            now: _now,
+            part: _part,
+        } = self;
+    }
 }
 
 impl Part {
@@ -54,6 +62,14 @@ impl Part {
 }
 
 impl Plan {
+    /// The time, and what is moved.
+    pub(crate) fn into_parts(self) -> (u64, Part)
+        ensures { result ≡ (self.now, self.part) }
+    {
+        let Plan { now, part } = self;
+        (now, part)
+    }
+
     /// The record that is appended before the plan is done.
     pub fn entry(&self) -> Option<&Record>
         ensures { option_copied result ≡ recorded self.entry.now }

@@ -15,11 +15,20 @@ use std::alloc::{AllocError, Global};
 use std::marker::Model;
 
 /// The live records by rising id, a SubCommitted behind its Voted, the last incarnation, and the outcomes.
-#[derive(Drop)]
 pub struct FollowedRecords {
     live: Vec<Record>,
     start: u32,
     done: Outcomes,
+}
+
+impl Drop for FollowedRecords {
+    fn drop(self) {
+        let FollowedRecords {
+            live: _live,
+            start: _start,
+            done: _done,
+        } = self;
+    }
 }
 
 impl Model for FollowedRecords {

@@ -15,12 +15,22 @@ use std::alloc::{AllocError, Global};
 use std::marker::Model;
 
 /// The live file of a node's journal, and the first gate of the other one.
-#[derive(Drop)]
 pub struct LiveFile {
     size: u64,
     generation: u32,
     other: Gate,
     kept: FollowedRecords,
+}
+
+impl Drop for LiveFile {
+    fn drop(self) {
+        let LiveFile {
+            size: _size,
+            generation: _generation,
+            other: _other,
+            kept: _kept,
+        } = self;
+    }
 }
 
 impl Model for LiveFile {

@@ -22,11 +22,20 @@ use site_memory::machine::MemSite;
 use std::alloc::{AllocError, Global};
 
 /// A node, where it is up, its machine, and what a stop leaves of that.
-#[derive(Drop)]
 pub struct Host {
     pub(crate) node: Option<Node>,
     pub(crate) site: MemSite,
     pub(crate) leaves: Choice,
+}
+
+impl Drop for Host {
+    fn drop(self) {
+        let Host {
+            node: _node,
+            site: _site,
+            leaves: _leaves,
+        } = self;
+    }
 }
 
 /// What a node that is asked came to.

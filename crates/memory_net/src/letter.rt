@@ -10,11 +10,21 @@ use std::alloc::{AllocError, Global};
 
 /// A message as it left its sender: the numbers of the sender and of the receiver, which is 0 where no node of the net has its
 /// address, and its bytes.
-#[derive(Debug, Drop)]
+#[derive(Debug)]
 pub struct Letter {
     pub sender: u8,
     pub receiver: u8,
     pub bytes: Vec<u8>,
+}
+
+impl Drop for Letter {
+    fn drop(self) {
+        let Letter {
+            sender: _sender,
+            receiver: _receiver,
+            bytes: _bytes,
+        } = self;
+    }
 }
 
 /// Whether this is the host of that node.

@@ -35,7 +35,6 @@ use world_laws::posts::Posted;
 use world_laws::world::World;
 
 /// How far a replay has come.
-#[derive(Drop)]
 pub struct Course {
     world: World,
     delivered: Delivered,
@@ -46,6 +45,20 @@ pub struct Course {
     /// For each event so far which armed call came in it, if one did.
     met: Vec<Meeting>,
     lines: Lines,
+}
+
+impl Drop for Course {
+    fn drop(self) {
+        let Course {
+            world: _world,
+            delivered: _delivered,
+            armed: _armed,
+            raws: _raws,
+            files: _files,
+            met: _met,
+            lines: _lines,
+        } = self;
+    }
 }
 
 impl Model for Course {

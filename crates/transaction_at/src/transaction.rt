@@ -192,22 +192,6 @@ impl Seats {
         self.counts.unanswered(kind) == 0
     }
 
-    /// Whether every durable seat has left.
-    #[tactic(auto, using(crate::proofs::SeatCounts::none_staying))]
-    pub fn all_left(&self) -> bool
-        ensures { result ≡ all_left self.now }
-    {
-        self.counts.staying == 0
-    }
-
-    /// Whether a seat is Aborting.
-    #[tactic(auto, using(crate::proofs::SeatCounts::none_aborting))]
-    pub fn is_aborting(&self) -> bool
-        ensures { result ≡ list_any (in_state states.Aborting) self.now }
-    {
-        self.counts.aborting != 0
-    }
-
     /// Whether a seat was asked and hasn't answered.
     #[tactic(auto, using(crate::proofs::SeatCounts::none_asked))]
     pub fn is_awaited(&self) -> bool

@@ -9,12 +9,22 @@ use std::alloc::{AllocError, Global};
 use std::marker::Model;
 
 /// The fates that are left, and how many stand before the stop.
-#[derive(Debug, Drop)]
+#[derive(Debug)]
 pub struct Luck {
     fates: Fates,
     /// So many are used up.
     used: usize,
     until: Option<u64>,
+}
+
+impl Drop for Luck {
+    fn drop(self) {
+        let Luck {
+            fates: _fates,
+            used: _used,
+            until: _until,
+        } = self;
+    }
 }
 
 impl Model for Luck {

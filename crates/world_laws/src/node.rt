@@ -38,12 +38,22 @@ fn has_record(alloc: Global, book: &Book, event: &Event, now: u64) -> Result<boo
 }
 
 /// A node.
-#[derive(Drop)]
 pub struct Node {
     base: Text,
     book: Option<Book>,
     journal: Vec<Record>,
     clock: u64,
+}
+
+impl Drop for Node {
+    fn drop(self) {
+        let Node {
+            base: _base,
+            book: _book,
+            journal: _journal,
+            clock: _clock,
+        } = self;
+    }
 }
 
 impl Model for Node {

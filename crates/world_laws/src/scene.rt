@@ -21,11 +21,20 @@ use std::alloc::{AllocError, Global};
 use std::marker::Model;
 
 /// A world, but for its events.
-#[derive(Drop)]
 pub struct Scene {
     nodes: Vec<Node>,
     posted: Vec<Posted>,
     happened: Vec<NodeEffect>,
+}
+
+impl Drop for Scene {
+    fn drop(self) {
+        let Scene {
+            nodes: _nodes,
+            posted: _posted,
+            happened: _happened,
+        } = self;
+    }
 }
 
 impl Model for Scene {

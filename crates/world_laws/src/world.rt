@@ -35,11 +35,20 @@ use std::alloc::{AllocError, Global};
 use std::marker::Model;
 
 /// Several nodes, the messages between them, and what happened to them.
-#[derive(Drop)]
 pub struct World {
     count: u8,
     scene: Scene,
     events: Vec<WorldEvent>,
+}
+
+impl Drop for World {
+    fn drop(self) {
+        let World {
+            count: _count,
+            scene: _scene,
+            events: _events,
+        } = self;
+    }
 }
 
 impl Model for World {
