@@ -370,6 +370,30 @@ fn chunks_have_131072_raw_bytes(rt: HostRuntime) -> Result<(), Fail> {
     Ok(())
 }
 
+/// A chunk of 32,768 bytes, and the size of the next one, of which nothing comes.
+fn chunk_and_size(alloc: Global, size: &[u8]) -> Result<Vec<u8>, AllocError> {
+    let mut bytes = Vec::from_slice(
+        alloc,
+        b"POST / HTTP/1.1\r\nHost: h\r\nTransfer-Encoding: chunked\r\n\r\n8000\r\n",
+    )?;
+    for _ in 0u32..32768 {
+        bytes.push(b'b')?;
+    }
+    bytes.extend_from_slice(b"\r\n")?;
+    bytes.extend_from_slice(size)?;
+    Ok(bytes)
+}
+
+#[test]
+fn chunks_have_65536_bytes_in_all(rt: HostRuntime) -> Result<(), Fail> {
+    let alloc = rt.alloc();
+    let last = answer(alloc, chunk_and_size(alloc, b"8000\r\n")?.as_slice(), 0)?;
+    assert_eq!(rt; last.as_str(), "400");
+    let over = answer(alloc, chunk_and_size(alloc, b"8001\r\n")?.as_slice(), 0)?;
+    assert_eq!(rt; over.as_str(), "413");
+    Ok(())
+}
+
 /// A body of so many bytes, of which the last is missing if it is cut.
 fn long_body(alloc: Global, bytes: u32, cut: bool) -> Result<Vec<u8>, AllocError> {
     let mut post = Vec::from_slice(alloc, b"POST / HTTP/1.0\r\nContent-Length: ")?;

@@ -54,20 +54,11 @@ use std::mem::replace;
 use world_laws::event::{Fates, Input, WorldEvent};
 
 /// Up to eight nodes, each on a machine in memory, with their clocks, in milliseconds, and the letters that they posted.
+#[derive(Drop)]
 pub struct Net {
     hosts: Vec<Host>,
     clocks: Vec<u64>,
     letters: Vec<Letter>,
-}
-
-impl Drop for Net {
-    fn drop(self) {
-        let Net {
-            hosts: _hosts,
-            clocks: _clocks,
-            letters: _letters,
-        } = self;
-    }
 }
 
 impl Model for Net {

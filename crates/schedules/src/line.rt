@@ -10,7 +10,7 @@ use std::alloc::AllocError;
 use std::marker::Model;
 
 /// A line of a schedule. Nodes are numbered from 1.
-#[derive(Debug, PartialEq, Eq)]
+#[derive(Debug, PartialEq, Eq, Drop)]
 pub enum Line {
     /// `nodes N`: how many nodes there are, 1 to 8. The first line, and no other.
     Nodes {
@@ -86,60 +86,6 @@ pub enum Line {
         node: u8,
         digits: Text,
     },
-}
-
-impl Drop for Line {
-    fn drop(self) {
-        match self {
-            Line::Nodes { count: _count } => {}
-            Line::Begin {
-                node: _node,
-                coordinator: _coordinator,
-                ms: _ms,
-            } => {}
-            Line::Interpose {
-                node: _node,
-                activity: _activity,
-                coordinator: _coordinator,
-            } => {}
-            Line::Work {
-                node: _node,
-                activity: _activity,
-                service: _service,
-                kind: _kind,
-                vote: _vote,
-            } => {}
-            Line::Commit {
-                node: _node,
-                activity: _activity,
-            } => {}
-            Line::Rollback {
-                node: _node,
-                activity: _activity,
-            } => {}
-            Line::Deliver { message: _message } => {}
-            Line::Flush { most: _most } => {}
-            Line::Tick {
-                node: _node,
-                ms: _ms,
-            } => {}
-            Line::Crash { node: _node } => {}
-            Line::Up { node: _node } => {}
-            Line::Stop {
-                node: _node,
-                call: _call,
-                leaves: _leaves,
-            } => {}
-            Line::Fail {
-                node: _node,
-                call: _call,
-            } => {}
-            Line::Inject {
-                node: _node,
-                digits: _digits,
-            } => {}
-        }
-    }
 }
 
 /// What a stop leaves of the bytes that are pending on the disk, and of the call at which it comes.
