@@ -13,8 +13,7 @@ begin participant 9002 3
 commits
 wait "$participant"
 ended participant $?
-kill -9 "$coordinator"
-wait "$coordinator" 2>/dev/null
+kills coordinator
 
 printed coordinator 'up 1' 'root 1-1 committed'
 printed participant 'up 1'

@@ -1,25 +1,33 @@
-# What serve.sh and crash.sh share: nodes that run beside the script, and what they print. The script names the repository in
-# `top` first.
+# What serve.sh, crash.sh and shop.sh share: processes that run beside the script, and what they print. The script names the
+# repository in `top` first.
 room=$(mktemp -d) || exit 1
 failed=0
 # the nodes end with the script, whose status is 1 where something was wrong
 trap 'status=$?; kill $(jobs -p) 2>/dev/null; rm -rf "$room"; [ "$status" = 0 ] && status=$failed; exit "$status"' EXIT
 "$top/atx" --version >/dev/null || exit 1
 
-# `begin ROLE PORT TURNS` starts a node, keeps its process in the variable of its role's name, and waits until it is up.
-begin() {
-  local role=$1 port=$2 turns=$3 waited
-  "$top/atx" "$role" --listen "127.0.0.1:$port" --journal "$room/$role" --turns "$turns" >"$room/$role.out" </dev/null &
-  printf -v "$role" '%s' $!
+# `start NAME COMMAND ..` starts a process, keeps it in the variable of its name, and waits until it says that it is up.
+start() {
+  local name=$1 waited
+  shift
+  "$@" >"$room/$name.out" </dev/null &
+  printf -v "$name" '%s' $!
   for waited in $(seq 100); do
-    grep -qs '^up ' "$room/$role.out" && return
-    kill -0 "${!role}" 2>/dev/null || break
+    grep -qs '^up' "$room/$name.out" && return
+    kill -0 "${!name}" 2>/dev/null || break
     sleep 0.1
   done
-  wait "${!role}"
-  echo "$role: not up, status $?" >&2
+  kill "${!name}" 2>/dev/null
+  wait "${!name}"
+  echo "$name: not up, status $?" >&2
   exit 1
 }
+
+# `begin ROLE PORT TURNS` starts a node, as `start` does.
+begin() { start "$1" "$top/atx" "$1" --listen "127.0.0.1:$2" --journal "$room/$1" --turns "$3"; }
+
+# `kills NAME` ends a process by signal 9.
+kills() { { kill -9 "${!1}"; wait "${!1}"; } 2>/dev/null; }
 
 # `ended NAME STATUS` says where a process didn't end well.
 ended() {
