@@ -16,11 +16,11 @@ use Rattle.votes.proofs.SingleVotes.{traces}
 use Rattle.votes.proofs.Growth.{aborted_on, committed_on, posted_on, voted_on}
 use Rattle.votes.proofs.Premises.{WorldPremises}
 use Rattle.outcomes.specs.AtomicCommit.{AllReady, Goes, IsReady, Move, NoneCommitted, Status, Step, aborts, begins, commits, goes, leaves, prepares, stays}
-use Rattle.outcomes.specs.Statuses.{RunsCommitAtomically, state_of, status_of, votes_in}
+use Rattle.outcomes.specs.Statuses.{RunsCommitAtomically, Seen, state_of, status_of, votes_in}
 use Rattle.outcomes.specs.Bonds.{CommittedBelow, IsBound}
 use Rattle.outcomes.proofs.Depth.{Sealed, as_participant, down, up}
 use Rattle.outcomes.proofs.Machine.{consistent}
-use Rattle.outcomes.proofs.Statuses.{Seen, seen}
+use Rattle.outcomes.proofs.Statuses.{seen}
 use Rattle.outcomes.proofs.Members.{member_of, of_member}
 use Rattle.outcomes.proofs.EventAdvances.{Advances, Follows, event_follows, premises_of}
 
@@ -159,6 +159,7 @@ runs_commit_atomically = record {
   opens = opening_working;
   steps = run_step;
   runs = λ hosts es root distinct. goes_on hosts root distinct es (opening hosts) (opened refl) (begins (opening_working hosts));
+  seen = seen;
   members = member_of;
   no_others = of_member;
   consistent = consistent;

@@ -17,8 +17,8 @@ use Rattle.at_base.specs.declared.target.Target.TheVariants as targets
 use Rattle.at_base.specs.Names.{is_notice}
 use Rattle.at_model.specs.Book.{is_id}
 use Rattle.at_model.specs.World.{Accepted, Node, Who, World, WorldEvent, nth, run_of, Hosts, HaveOwnAddresses}
-use Rattle.model_laws.specs.Agreement.{IsOf}
-use Rattle.votes.specs.DurableVotes.{is_vote}
+use Rattle.model_laws.specs.Agreement.{HasAborted, HasCommitted, HasPosted, IsOf}
+use Rattle.votes.specs.DurableVotes.{HasVoted, is_vote}
 use Rattle.outcomes.specs.AtomicCommit.{Goes, IsConsistent, IsMember, Joined, State, Status, Step}
 
 -- what an effect says of the item: it ended so
@@ -62,6 +62,16 @@ status_of w x =
     else if votes_in x.id (nth x.node w.nodes) then Status.Prepared
     else Status.Working
 
+-- What a status says of an item, by the predicates of agreement.
+abbrev pub Seen : World → Who → Status → Type 0
+Seen w x Status.Committed = HasCommitted w x
+Seen w x Status.Aborted = HasAborted w x
+Seen w x Status.Left = HasPosted w x kinds.Durable notices.ReadOnly
+Seen w x Status.Prepared =
+    HasVoted w x × (HasCommitted w x → ⊥) × (HasAborted w x → ⊥) × (HasPosted w x kinds.Durable notices.ReadOnly → ⊥)
+Seen w x Status.Working =
+    (HasVoted w x → ⊥) × (HasCommitted w x → ⊥) × (HasAborted w x → ⊥) × (HasPosted w x kinds.Durable notices.ReadOnly → ⊥)
+
 -- Who joined under whom: each durable registration that was accepted, of an item.
 abbrev pub joined_as : Kind → Who → Who → List Joined
 joined_as kinds.Durable t x = record { under = t; member = x } ∷ []
@@ -87,7 +97,8 @@ pub record RunsCommitAtomically : Type 0 where
       → Step root (state_of (run_of hosts es)) (state_of (run_of hosts (es ++ e ∷ [])))
   -- so the machine goes to what is seen of each run
   pub runs : (hosts : Hosts) (es : List WorldEvent) (root : Who) → HaveOwnAddresses hosts → Goes root (state_of (run_of hosts es))
-  -- its members are those of the root
+  -- what is seen is so, and its members are those of the root
+  pub seen : (w : World) (x : Who) → Seen w x (status_of w x)
   pub members : (w : World) (root x : Who) → IsOf w x root → IsMember (state_of w) root x
   pub no_others : (w : World) (root x : Who) → IsMember (state_of w) root x → IsOf w x root
   -- and wherever the machine goes, none that committed is beside one that aborted
