@@ -16,6 +16,7 @@ use Rattle.at_base.specs.declared.record.Record.TheVariants as records
 use Rattle.at_tables.specs.Names.{is_state}
 use Rattle.at_tables.specs.declared.cells.State.TheVariants as states
 use Rattle.at_model.specs.Book.{Book, Leaf, Transaction, leaf_id, transaction_id}
+use Rattle.at_model.specs.Due.{may_expire}
 use Rattle.at_model.specs.Step.{leaf_at, transaction_at}
 use Rattle.at_model.specs.World.{Happened, Node, Who, World, WorldEvent, happened_at, nth, opening, run_of, run_on, world_step, Hosts, HaveOwnAddresses}
 use Rattle.model_laws.specs.Agreement.{HasAborted, HasCommitted, HasEnded, HasPosted, IsIn, IsOf, below, ends_as, itself}
@@ -48,7 +49,7 @@ use Rattle.outcomes.proofs.Agreement.{bound, layers}
 use Rattle.outcomes.proofs.Depth.{up, whole}
 use Rattle.outcomes.proofs.Layers.{world_premises}
 use Rattle.settled.proofs.Settlement.{settles}
-use Rattle.settled_outcomes.specs.SettledOutcomes.{HasOutcomes, HasPromised, IsUndecided, OutcomesAreSettled}
+use Rattle.settled_outcomes.specs.SettledOutcomes.{HasOutcomes, HasPromised, IsUndecided, OutcomesAreSettled, StandsOpen}
 
 -- what is known of a settled world
 record Knows (hosts : Hosts) (w : World) : Type 0 where
@@ -244,6 +245,55 @@ unvoted hosts w k root x number h seat p =
     same_superior : IsUnderOne w (HasAborted w) x → HasAborted w root
     same_superior (s, (other, i), a) = subst (HasAborted w) (k.bonds.superior x s root _ _ i seat) a
 
+-- an undecided root that is held
+held_open : (hosts : Hosts) (w : World) → Knows hosts w → (t : Who) (y : Node) (held : Transaction) → IsUndecided w t → nth t.node w.nodes ≡ Some y
+    → transaction_at (book_of y) t.id ≡ Some held
+    → TransactionLife y.journal (happened_on t.node w.happened) t.id held → may_expire held.phase ≡ true
+held_open hosts w k t y held h found stands (undecided still nothing unended) = still
+held_open hosts w k t y held h found stands (voted superior seats phase sub live out unended) =
+    absurd (transaction_rests hosts w k t.node y t.id held found stands (ap waits_in phase))
+held_open hosts w k t y held h found stands (decided seats phase root live ended) =
+    absurd (transaction_rests hosts w k t.node y t.id held found stands (ap waits_in phase))
+held_open hosts w k t y held h found stands (committed superior seats phase sub live more ended) =
+    absurd (transaction_rests hosts w k t.node y t.id held found stands (ap waits_in phase))
+held_open hosts w k t y held h found stands (aborted phase dead ended) =
+    absurd (h.unaborted
+    (aborts_here w t.node y.journal t.id held (found_id transaction_id t.id (book_of y).transactions held stands) (aborted phase dead ended) phase))
+
+-- each node of a settled world is up
+is_up : (x : Node) → is_node_settled x ≡ true → (b : Book) × (x.book ≡ Some b)
+is_up x e = by_book x.book refl e
+  where
+    by_book : (o : Option Book) → x.book ≡ o → is_book_settled o ≡ true → (b : Book) × (x.book ≡ Some b)
+    by_book None f g = absurd cc
+    by_book (Some b) f g = (b, f)
+
+stands_open : (hosts : Hosts) (w : World) → Knows hosts w → (t : Who) → IsUndecided w t → IsHeld w t → StandsOpen w t
+stands_open hosts w k t h held =
+    let (b, up) = is_up held.node (node_rests w t.node held.node k.rests held.found) in
+    record {
+      node = held.node;
+      found = held.found;
+      book = b;
+      up = up;
+      transaction = held.transaction;
+      stands = subst (λ o. transaction_at (standing held.node.base held.node.journal o) t.id ≡ Some held.transaction) up held.stands;
+      undecided = held_open hosts w k t held.node held.transaction h held.found held.stands
+          (life_of held.node.journal (happened_on t.node w.happened) t.id (transaction_at (book_of held.node) t.id) (leaf_at (book_of held.node) t.id) held.transaction
+          (k.premises.laws.lives t.node held.node held.found t.id) held.stands);
+    }
+
+held : (hosts : Hosts) (w : World) → Knows hosts w → (root x : Who) (number : ℕ) → IsUndecided w root → HasSeat w root number kinds.Durable x
+    → StandsOpen w root ⊎ HasPosted w x kinds.Durable notices.ReadOnly
+held hosts w k root x number h seat = by_case (k.joint.gone root x number seat)
+  where
+    by_case : IsHeld w root ⊎ (HasAborted w root ⊎ (HasPosted w x kinds.Durable notices.ReadOnly ⊎ HasCommitted w x))
+        → StandsOpen w root ⊎ HasPosted w x kinds.Durable notices.ReadOnly
+    by_case (inl i) = inl (stands_open hosts w k root h i)
+    by_case (inr (inl a)) = absurd (h.unaborted a)
+    by_case (inr (inr (inl r))) = inr r
+    by_case (inr (inr (inr c))) = absurd (h.uncommitted (up w k.bonds x root (below root number seat (itself refl)) c))
+
 has_outcomes : (hosts : Hosts) (w : World) → Knows hosts w → HasOutcomes w
 has_outcomes hosts w k = record {
   decided = has_ended hosts w k;
@@ -253,6 +303,7 @@ has_outcomes hosts w k = record {
   undecided = λ root x h i p.
       let a : HasAborted w x = aborted_under hosts w k root x h.uncommitted i p in (a, k.bonds.rolled_back x (as_voted hosts w k x p) a);
   unvoted = unvoted hosts w k;
+  held = held hosts w k;
 }
 
 reached_outcomes : (hosts : Hosts) (w : World) → HaveOwnAddresses hosts → Reached hosts w → is_settled w ≡ true → HasOutcomes w

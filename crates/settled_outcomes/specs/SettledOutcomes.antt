@@ -1,10 +1,13 @@
 -- What has become of everybody in a world at rest: not only that nobody waits, but that each who has voted has its outcome, and that
 -- all under one root have the same (WS-AtomicTransaction 1.2, sections 1 and 3.3).
-use Rattle.std.specs.Prelude.{ℕ, List, ◌++◌, true, ◌≡◌, ◌⊎◌}
+use Rattle.std.specs.Prelude.{ℕ, List, ◌++◌, Some, true, ◌≡◌, ◌⊎◌}
 use Rattle.std.specs.List.{AllByRecursion}
 use Rattle.at_base.specs.declared.notice.Kind.TheVariants as kinds
 use Rattle.at_base.specs.declared.notice.Notice.TheVariants as notices
-use Rattle.at_model.specs.World.{Who, World, WorldEvent, run_of, run_on, Hosts, HaveOwnAddresses}
+use Rattle.at_model.specs.Book.{Book, Transaction}
+use Rattle.at_model.specs.Due.{may_expire}
+use Rattle.at_model.specs.Step.{transaction_at}
+use Rattle.at_model.specs.World.{Node, Who, World, WorldEvent, nth, run_of, run_on, Hosts, HaveOwnAddresses}
 use Rattle.model_laws.specs.Agreement.{HasAborted, HasCommitted, HasPosted, IsOf}
 use Rattle.model_laws.specs.ReachedWorlds.{Reached}
 use Rattle.model_laws.specs.Settlement.{MayStart, is_settled, settle}
@@ -21,6 +24,16 @@ pub record IsUndecided (w : World) (root : Who) : Type 0 where
   pub uncommitted : HasCommitted w root → ⊥
   pub unaborted : HasAborted w root → ⊥
 
+-- its node is up and has it in its book, undecided: it may still complete, or expire
+pub record StandsOpen (w : World) (t : Who) : Type 0 where
+  pub node : Node
+  pub found : nth t.node w.nodes ≡ Some node
+  pub book : Book
+  pub up : node.book ≡ Some book
+  pub transaction : Transaction
+  pub stands : transaction_at book t.id ≡ Some transaction
+  pub undecided : may_expire transaction.phase ≡ true
+
 pub record HasOutcomes (w : World) : Type 0 where
   -- who has voted has committed or aborted: nobody is in doubt, and no vote is forgotten
   pub decided : (x : Who) → HasPromised w x → HasCommitted w x ⊎ HasAborted w x
@@ -34,6 +47,9 @@ pub record HasOutcomes (w : World) : Type 0 where
   pub undecided : (root x : Who) → IsUndecided w root → IsOf w x root → HasPromised w x → HasAborted w x × IsUnderOne w (HasAborted w) x
   -- so of the participants of the root itself none has voted
   pub unvoted : (root x : Who) (number : ℕ) → IsUndecided w root → HasSeat w root number kinds.Durable x → HasPromised w x → ⊥
+  -- and such a root isn't forgotten, or its participants have left
+  pub held : (root x : Who) (number : ℕ) → IsUndecided w root → HasSeat w root number kinds.Durable x
+      → StandsOpen w root ⊎ HasPosted w x kinds.Durable notices.ReadOnly
 
 -- So it is in every settled world that is reached, in every run that ends settled, and where the events of `settle` have
 -- happened behind any run in which no node has spent its incarnations.
