@@ -126,41 +126,35 @@ at_here : (n : ℕ) (y : Who) → y.node ≡ n → ◌≡◌ {A = Who} (record {
 at_here n y e = λ i. record { node = sym e i; id = y.id }
 
 -- what a fall loses hasn't committed
-lost_apart : (b : Book) (id : Numbers) (f : Effect) → IsIn f (lost b) → IsCommitBelow id f → ⊥
+pub lost_apart : (b : Book) (id : Numbers) (f : Effect) → IsIn f (lost b) → IsEnd id endings.Committed f → ⊥
 lost_apart b id f i h = by_loss (in_lost b f i)
   where
     by_loss : LosesTransaction b f ⊎ LosesLeaf b f → ⊥
     by_loss (inl k) =
-        let e : endings.Lost ≡ endings.Committed = (ending_is k.one.superior k.one.id id endings.Lost endings.Committed (subst (IsEnd id endings.Committed) k.is (as_end id f h))).0 in
+        let e : endings.Lost ≡ endings.Committed = (ending_is k.one.superior k.one.id id endings.Lost endings.Committed (subst (IsEnd id endings.Committed) k.is h)).0 in
         cc
     by_loss (inr k) =
-        let e : endings.Lost ≡ endings.Committed = (leaf_end_is k.one id endings.Lost endings.Committed (subst (IsEnd id endings.Committed) k.is (as_end id f h))).0 in
+        let e : endings.Lost ≡ endings.Committed = (leaf_end_is k.one id endings.Lost endings.Committed (subst (IsEnd id endings.Committed) k.is h)).0 in
         cc
 
 -- what happened, and what happens now at this node
-one_now : (n : ℕ) (old : List Happened) (es : List Effect) (y : ℕ) (f : Effect) → IsIn (happened_at y f) (old ++ map (happened_at n) es) → IsIn (happened_at y f) old ⊎ ((y ≡ n) × IsIn f es)
+pub one_now : (n : ℕ) (old : List Happened) (es : List Effect) (y : ℕ) (f : Effect) → IsIn (happened_at y f) (old ++ map (happened_at n) es) → IsIn (happened_at y f) old ⊎ ((y ≡ n) × IsIn f es)
 one_now n old es y f i = by_place (in_either (happened_at y f) old (map (happened_at n) es) i)
   where
     by_place : IsIn (happened_at y f) old ⊎ IsIn (happened_at y f) (map (happened_at n) es) → IsIn (happened_at y f) old ⊎ ((y ≡ n) × IsIn f es)
     by_place (inl k) = inl k
     by_place (inr k) = inr (happened_of n es y f k)
 
-pub commits_before : (u : World) (n : ℕ) (x : Node) (b : Book) → nth n u.nodes ≡ Some x → (y : Who) → CommittedBelow (goes_down n b u) y → CommittedBelow u y
-commits_before u n x b found y h = by_effect h
+pub falls_apart : (u : World) (n : ℕ) (x : Node) (b : Book) → nth n u.nodes ≡ Some x → (y : Who) (f : Effect) → IsEnd y.id endings.Committed f → IsIn (happened_at y.node f) (goes_down n b u).happened
+    → IsIn (happened_at y.node f) u.happened
+falls_apart u n x b found y f k i = by_place (one_now n u.happened (lost b) y.node f (subst (IsIn (happened_at y.node f)) is i))
   where
     is : (goes_down n b u).happened ≡ u.happened ++ map (happened_at n) (lost b)
     is = ap (λ (w : World). w.happened) (ap (put_book n None (record u { happened = u.happened ++ lost_in n b })) found) ∙ ap (λ hs. u.happened ++ hs) (lost_maps n b)
 
-    old : (f : Effect) → IsCommitBelow y.id f → IsIn (happened_at y.node f) (goes_down n b u).happened → IsIn (happened_at y.node f) u.happened
-    old f k i = by_place (one_now n u.happened (lost b) y.node f (subst (IsIn (happened_at y.node f)) is i))
-      where
-        by_place : IsIn (happened_at y.node f) u.happened ⊎ ((y.node ≡ n) × IsIn f (lost b)) → IsIn (happened_at y.node f) u.happened
-        by_place (inl l) = l
-        by_place (inr (here, l)) = absurd (lost_apart b y.id f l k)
-
-    by_effect : CommittedBelow (goes_down n b u) y → CommittedBelow u y
-    by_effect (inl i) = inl (old (effects.Sub y.id endings.Committed) (inl refl) i)
-    by_effect (inr i) = inr (old (effects.Leaf y.id kinds.Durable endings.Committed) (inr refl) i)
+    by_place : IsIn (happened_at y.node f) u.happened ⊎ ((y.node ≡ n) × IsIn f (lost b)) → IsIn (happened_at y.node f) u.happened
+    by_place (inl l) = l
+    by_place (inr (here, l)) = absurd (lost_apart b y.id f l k)
 
 -- so behind a step
 pub votes_first : (hosts : Hosts) (u : World) (n : ℕ) (x : Node) (b : Book) (e : Event) (now : ℕ) (landed : Bool) → StepPremises hosts u n x b e → IsOutcome hosts u → (y : Who)

@@ -1,14 +1,12 @@
 -- The machine of atomic commit is consistent.
 use Rattle.std.specs.Prelude.{◌≡◌, ◌⊎◌}
 use Rattle.std.proofs.Common.{inl, inr, sym, subst, ◌∙◌}
-use Rattle.at_model.specs.World.{Who, World, Hosts}
-use Rattle.model_laws.specs.Agreement.{IsOf}
-use Rattle.outcomes.specs.AtomicCommit.{AllReady, IsReady, Move, NoneCommitted, Status, Step, aborts, commits, leaves, prepares, stays}
-use Rattle.outcomes.specs.Statuses.{Unfolds, begins, goes, status_of}
+use Rattle.at_model.specs.World.{Who}
+use Rattle.outcomes.specs.AtomicCommit.{AllReady, Goes, IsConsistent, IsMember, IsReady, Move, NoneCommitted, State, Status, Step, aborts, begins, commits, goes, leaves, prepares, stays}
 
 -- once one has committed, everybody is ready
-abbrev ReadyOnce : (Who → Type 0) → (Who → Status) → Type 0
-ReadyOnce members s = (y : Who) → members y → s y ≡ Status.Committed → AllReady members s
+abbrev ReadyOnce : Who → State → Type 0
+ReadyOnce root s = (y : Who) → IsMember s root y → s.status y ≡ Status.Committed → AllReady root s
 
 not_ready : (s : Status) → IsReady s → (s ≡ Status.Working) ⊎ (s ≡ Status.Aborted) → ⊥
 not_ready s h (inl e) = subst IsReady e h
@@ -28,21 +26,22 @@ one_committed before after root ready uncommitted e (leaves b f) = let g : Statu
 one_committed before after root ready uncommitted e (commits b f r) = inr r
 one_committed before after root ready uncommitted e (aborts b f n) = let g : Status.Aborted ≡ Status.Committed = sym f ∙ e in absurd cc
 
-step_ready : (root : Who) (members more : Who → Type 0) (before after : Who → Status) → ReadyOnce members before → Step root members more before after → ReadyOnce more after
-step_ready root members more before after h s y m e = by_move (one_committed (before y) (after y) (y ≡ root) (AllReady more after) (NoneCommitted more after) e (s.moves y m))
+step_ready : (root : Who) (before after : State) → ReadyOnce root before → Step root before after → ReadyOnce root after
+step_ready root before after h s y m e =
+    by_move (one_committed (before.status y) (after.status y) (y ≡ root) (AllReady root after) (NoneCommitted root after) e (s.moves y m))
   where
-    by_move : (before y ≡ Status.Committed) ⊎ AllReady more after → AllReady more after
+    by_move : (before.status y ≡ Status.Committed) ⊎ AllReady root after → AllReady root after
     by_move (inl was) = λ x k.
-        moved_ready (before x) (after x) (x ≡ root) (AllReady more after) (NoneCommitted more after) (h y (s.joins y y m m e) was x (s.joins x y k m e)) (λ none. none y m e) (s.moves x k)
+        moved_ready (before.status x) (after.status x) (x ≡ root) (AllReady root after) (NoneCommitted root after)
+        (h y (s.joins y y m m e) was x (s.joins x y k m e)) (λ none. none y m e) (s.moves x k)
     by_move (inr r) = r
 
-unfolds_ready : (hosts : Hosts) (root : Who) (w : World) → Unfolds hosts root w → ReadyOnce (λ x. IsOf w x root) (status_of w)
-unfolds_ready hosts root w (begins h) = λ y m e. absurd (never y e)
+goes_ready : (root : Who) (s : State) → Goes root s → ReadyOnce root s
+goes_ready root s (begins h) = λ y m e. absurd (never y e)
   where
-    never : (y : Who) → status_of w y ≡ Status.Committed → ⊥
+    never : (y : Who) → s.status y ≡ Status.Committed → ⊥
     never y e = let f : Status.Working ≡ Status.Committed = sym (h y) ∙ e in cc
-unfolds_ready hosts root w (goes u rest s) =
-    step_ready root (λ x. IsOf u x root) (λ x. IsOf w x root) (status_of u) (status_of w) (unfolds_ready hosts root u rest) s
+goes_ready root s (goes before rest last) = step_ready root before s (goes_ready root before rest) last
 
-pub consistent : (hosts : Hosts) (root : Who) (w : World) → Unfolds hosts root w → (x y : Who) → IsOf w x root → IsOf w y root → status_of w x ≡ Status.Committed → status_of w y ≡ Status.Aborted → ⊥
-consistent hosts root w h x y m k e f = not_ready (status_of w y) (unfolds_ready hosts root w h x m e y k) (inr f)
+pub consistent : IsConsistent
+consistent root s h x y m k e f = not_ready (s.status y) (goes_ready root s h x m e y k) (inr f)

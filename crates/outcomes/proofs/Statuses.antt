@@ -24,7 +24,7 @@ use Rattle.model_laws.proofs.RecoveryLaws.{same_id, self_id}
 use Rattle.votes.specs.DurableVotes.{HasVoted, is_vote}
 use Rattle.votes.proofs.SeatsAt.{any_of}
 use Rattle.outcomes.specs.AtomicCommit.{Status}
-use Rattle.outcomes.specs.Statuses.{has_ended, has_left, is_ending, is_own, says_end, says_read_only, status_of, votes_in}
+use Rattle.outcomes.specs.Statuses.{Seen, has_ended, has_left, is_ending, is_own, says_end, says_read_only, status_of, votes_in}
 
 -- tests over lists
 some_of : {A : Type 0} (test : A → Bool) (xs : List A) → list_any test xs ≡ true → (y : A) × IsIn y xs × (test y ≡ true)
@@ -139,14 +139,6 @@ leaves_so w x (p, i, sender, own, says) =
     any_of (λ (q : Posted). nat_eq q.sender x.node && (is_own x.id q.content.own && says_read_only q.content.message)) w.posted p i
     (both_hold (nat_eq p.sender x.node) _ (eq-eqb p.sender x.node sender)
     (both_hold (is_own x.id p.content.own) (says_read_only p.content.message) (ap (is_own x.id) own ∙ self_id x.id) (ap says_read_only says)))
-
--- what a status says
-abbrev pub Seen : World → Who → Status → Type 0
-Seen w x Status.Committed = HasCommitted w x
-Seen w x Status.Aborted = HasAborted w x
-Seen w x Status.Left = HasPosted w x kinds.Durable notices.ReadOnly
-Seen w x Status.Prepared = HasVoted w x × (HasCommitted w x → ⊥) × (HasAborted w x → ⊥) × (HasPosted w x kinds.Durable notices.ReadOnly → ⊥)
-Seen w x Status.Working = (HasVoted w x → ⊥) × (HasCommitted w x → ⊥) × (HasAborted w x → ⊥) × (HasPosted w x kinds.Durable notices.ReadOnly → ⊥)
 
 not_true : (b : Bool) → b ≡ false → b ≡ true → ⊥
 not_true b e f = let g : false ≡ true = sym e ∙ f in cc

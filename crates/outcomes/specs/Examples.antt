@@ -7,17 +7,17 @@ use Rattle.model_laws.specs.Examples.{first, one_aborts, one_participant, plain_
 use Rattle.outcomes.specs.AtomicCommit.{Status}
 use Rattle.outcomes.specs.Statuses.{status_of}
 
-abbrev pub seen_in : List WorldEvent → List Status
-seen_in es = status_of (run_of (example_hosts 3) es) (record { node = 2; id = first }) ∷ status_of (run_of (example_hosts 3) es) (record { node = 3; id = first }) ∷ []
+abbrev pub statuses_in : List WorldEvent → List Status
+statuses_in es = status_of (run_of (example_hosts 3) es) (record { node = 2; id = first }) ∷ status_of (run_of (example_hosts 3) es) (record { node = 3; id = first }) ∷ []
 
 pub record StatusesAreSeen : Type 0 where
-  pub registered : seen_in (one_participant votes.Prepared) ≡ Status.Working ∷ Status.Working ∷ []
+  pub registered : statuses_in (one_participant votes.Prepared) ≡ Status.Working ∷ Status.Working ∷ []
   -- the initiator's Commit and the Prepare have come
-  pub voted : seen_in (one_participant votes.Prepared ++ (commit_at 1 first ∷ deliver_to 2 9 ∷ deliver_to 3 10 ∷ [])) ≡ Status.Working ∷ Status.Prepared ∷ []
+  pub voted : statuses_in (one_participant votes.Prepared ++ (commit_at 1 first ∷ deliver_to 2 9 ∷ deliver_to 3 10 ∷ [])) ≡ Status.Working ∷ Status.Prepared ∷ []
   -- and the Prepared
-  pub decided : seen_in (one_participant votes.Prepared ++ (commit_at 1 first ∷ deliver_to 2 9 ∷ deliver_to 3 10 ∷ deliver_to 2 11 ∷ [])) ≡ Status.Committed ∷ Status.Prepared ∷ []
-  pub done : seen_in plain_path ≡ Status.Committed ∷ Status.Committed ∷ []
+  pub decided : statuses_in (one_participant votes.Prepared ++ (commit_at 1 first ∷ deliver_to 2 9 ∷ deliver_to 3 10 ∷ deliver_to 2 11 ∷ [])) ≡ Status.Committed ∷ Status.Prepared ∷ []
+  pub done : statuses_in plain_path ≡ Status.Committed ∷ Status.Committed ∷ []
   -- the participant votes ReadOnly
-  pub left : seen_in read_only ≡ Status.Committed ∷ Status.Left ∷ []
+  pub left : statuses_in read_only ≡ Status.Committed ∷ Status.Left ∷ []
   -- another participant votes Aborted
-  pub rolled_back : seen_in one_aborts ≡ Status.Aborted ∷ Status.Aborted ∷ []
+  pub rolled_back : statuses_in one_aborts ≡ Status.Aborted ∷ Status.Aborted ∷ []

@@ -20,9 +20,10 @@ pub fn agrees()
     ensures { Agrees }
 {}
 
-/// Every run, seen at one root, is a run of a small machine of atomic commit, and that machine is consistent: a member votes;
-/// it commits where everybody is ready, the root by its decision and any other behind its vote; it aborts where nobody has
-/// committed; nothing is undone, and nobody joins once one has committed.
+/// Each event of a run, seen at one root, is one step of a small machine of atomic commit, from what is seen of the run before it
+/// to what is seen of the run behind it: a member votes; it commits where everybody is ready, the root by its decision and any
+/// other behind its vote; it aborts where nobody has committed; nothing is undone, nobody drops out, and nobody joins once one has
+/// committed. And the machine is consistent, by itself: wherever it goes, none that committed is beside one that aborted.
 #[tactic(auto, using(crate::proofs::AtomicCommitRuns::runs_commit_atomically))]
 pub fn runs_commit_atomically()
     ensures { RunsCommitAtomically }
