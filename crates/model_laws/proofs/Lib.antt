@@ -28,6 +28,7 @@ pub mod StepRegistrations
 pub mod EventLaws
 pub mod Registrations
 pub mod Nodes
+pub mod EventSteps
 pub mod ReachedWorlds
 pub mod Growth
 pub mod WorldInvariants

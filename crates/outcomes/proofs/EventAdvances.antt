@@ -24,7 +24,8 @@ use Rattle.outcomes.proofs.Agreement.{bound, layers}
 use Rattle.outcomes.proofs.Layers.{step_premises, world_premises}
 use Rattle.outcomes.proofs.EarlierVotes.{falls_apart, one_now, votes_first}
 use Rattle.votes.proofs.NewVotes.{IsEnd}
-use Rattle.outcomes.proofs.EventSteps.{Begins, IsTimed, Lasting, event_lasts}
+use Rattle.model_laws.proofs.EventSteps.{Begins, IsTimed, Lasting, event_lasts, timed_heard}
+use Rattle.model_laws.proofs.ReachedWorlds.{in_order}
 use Rattle.outcomes.proofs.Unrecorded.{timed_apart}
 use Rattle.outcomes.proofs.Joiners.{none_joins, of_same}
 
@@ -97,12 +98,6 @@ first_step hosts root u n x b e now landed distinct reached found up heard =
       joins = λ y i c. none_joins hosts u n x b e now landed p k.0 k.1 y root i c;
     }
 
-timed_heard : (u : World) (n : ℕ) (x : Node) (e : Event) → IsTimed e → Heard u n x e
-timed_heard u n x (events.Arrived a) is = absurd is
-timed_heard u n x (events.Local l) is = tt
-timed_heard u n x (events.Due item) is = tt
-timed_heard u n x events.Tick is = tt
-
 -- a step of time
 timed_step : (hosts : Hosts) (root : Who) (u : World) (n : ℕ) (x : Node) (b : Book) (e : Event) (now : ℕ) (landed : Bool) → HaveOwnAddresses hosts
     → Reached hosts u → nth n u.nodes ≡ Some x
@@ -142,9 +137,8 @@ pub record Follows (hosts : Hosts) (root : Who) (start w : World) : Type 0 where
 
 following : (hosts : Hosts) (root : Who) (start : World) → HaveOwnAddresses hosts → Lasting
 following hosts root start distinct = record {
-  hosts = hosts;
   Holds = Follows hosts root start;
-  reached = λ w h. h.reached;
+  order = λ w h n x found. in_order hosts w h.reached n x found;
   timed = λ u n x b e now landed ps h found up timed those. record {
     reached = stepped u n x b e now landed ps h.reached found up (timed_heard u n x e timed) those refl;
     advances = advances_then root start u (post_all n ps (counts u n x b e now landed)) h.advances

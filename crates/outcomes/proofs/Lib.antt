@@ -16,7 +16,6 @@ pub mod AtomicCommitRuns
 pub mod UpwardNotices
 pub mod EarlierVotes
 pub mod EventAdvances
-pub mod EventSteps
 pub mod Joiners
 pub mod Members
 pub mod Unrecorded

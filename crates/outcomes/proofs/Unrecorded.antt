@@ -25,7 +25,7 @@ use Rattle.agreement.specs.LeafDeeds.{LeafDeed, aborts, commits, dropped, for_du
 use Rattle.enlistments.specs.Moves.{IsReady, Moved, StepsMove, activity_did, activity_made, answered, leaf_did, leaf_made, registered, rested, transaction_did, transaction_made}
 use Rattle.votes.proofs.Aborts.{ending_is, leaf_end_is, none_in, only_one}
 use Rattle.votes.proofs.NewVotes.{IsEnd}
-use Rattle.outcomes.proofs.EventSteps.{IsTimed}
+use Rattle.model_laws.proofs.EventSteps.{IsTimed}
 
 none_some : (o : Option Record) (r : Record) → o ≡ None → o ≡ Some r → ⊥
 none_some o r e f = let g : None ≡ Some r = sym e ∙ f in cc

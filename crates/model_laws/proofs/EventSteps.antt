@@ -16,14 +16,14 @@ use Rattle.at_base.specs.declared.outs.Out.TheVariants as outs
 use Rattle.at_model.specs.Book.{Book, last_counter}
 use Rattle.at_model.specs.Recovery.{last_incarnation}
 use Rattle.at_model.specs.Step.{Outcome, Plan, still, items_of, plan, is_due, step}
-use Rattle.at_model.specs.World.{Node, Posted, World, WorldEvent, Turn, Ask, Crash, Up, Input, Deliver, Tick, Raw, Turning, nth, put_nth, with_post, decoded, is_stopped, fate, fates_left, one_nearer, after_fate, sent, send_all, accepted_in, happened_at, counted, with_record, landed_step, absent_step, step_by, take_step, due_step, due_steps, put_book, goes_down, lost_in, turned, turn_from, take_turn, ticked, later, answer_plan, arrival_plan, is_receiver, deliver, turn, ask, started, up_after, start, on_book, down_only, at_node, at_some_node, node_of, world_step, Hosts, Traced, traced}
+use Rattle.at_model.specs.World.{Node, Posted, World, WorldEvent, Turn, Ask, Crash, Up, Input, Deliver, Tick, Raw, Turning, nth, put_nth, with_post, decoded, is_stopped, fate, fates_left, one_nearer, after_fate, sent, send_all, accepted_in, happened_at, counted, with_record, landed_step, absent_step, step_by, take_step, due_step, due_steps, put_book, goes_down, lost_in, turned, turn_from, take_turn, ticked, later, answer_plan, arrival_plan, is_receiver, deliver, turn, ask, started, up_after, start, on_book, down_only, at_node, at_some_node, node_of, world_step, Traced, traced}
 use Rattle.model_laws.specs.Agreement.{IsIn}
 use Rattle.model_laws.specs.DrawnIds.{with_entry}
 use Rattle.model_laws.specs.Order.{IsInOrder}
-use Rattle.model_laws.specs.ReachedWorlds.{Heard, post_all, counts, Reached}
+use Rattle.model_laws.specs.ReachedWorlds.{Heard, post_all, counts}
 use Rattle.model_laws.proofs.StepRegistrations.{none_new}
 use Rattle.model_laws.proofs.Nodes.{put_put, put_same, same_bases, bases_back, bases_put, receiver_same, accepted_same}
-use Rattle.model_laws.proofs.ReachedWorlds.{in_order}
+use Rattle.model_laws.proofs.DecisionLaws.{IfThere}
 use Rattle.model_laws.proofs.NodeLives.{put_this}
 
 -- a step that no message and no request brings: of an item that is due, or of a tick
@@ -33,11 +33,16 @@ IsTimed (events.Local l) = ⊥
 IsTimed (events.Due item) = Unit {0}
 IsTimed events.Tick = Unit {0}
 
+pub timed_heard : (u : World) (n : ℕ) (x : Node) (e : Event) → IsTimed e → Heard u n x e
+timed_heard u n x (events.Arrived a) timed = absurd timed
+timed_heard u n x (events.Local l) timed = tt
+timed_heard u n x (events.Due item) timed = tt
+timed_heard u n x events.Tick timed = tt
+
 -- what holds in the midst of an event, and is kept by the steps of time, and where the node goes down
 pub record Lasting : Type 1 where
-  pub hosts : Hosts
   pub Holds : World → Type 0
-  pub reached : (w : World) → Holds w → Reached hosts w
+  pub order : (w : World) → Holds w → (n : ℕ) (x : Node) → nth n w.nodes ≡ Some x → IfThere IsInOrder x.book
   pub timed : (u : World) (n : ℕ) (x : Node) (b : Book) (e : Event) (now : ℕ) (landed : Bool) (ps : List Post) → Holds u → nth n u.nodes ≡ Some x
       → x.book ≡ Some b → IsTimed e
       → AllByRecursion (λ p. IsIn (outs.Post p) (step b e now landed).outs) ps → Holds (post_all n ps (counts u n x b e now landed))
@@ -243,7 +248,7 @@ answer_within : (c : Lasting) (n : ℕ) (r : Turning) (status : ℕ) → Within 
 answer_within c n r status h = by_stop (is_stopped r)
   where
     order : IsInOrder r.book
-    order = in_order c.hosts (newest n h.node r) (c.reached (newest n h.node r) h.holds) n (record h.node { book = Some r.book }) (put_this r.world.nodes n h.node (record h.node { book = Some r.book }) h.found)
+    order = c.order (newest n h.node r) h.holds n (record h.node { book = Some r.book }) (put_this r.world.nodes n h.node (record h.node { book = Some r.book }) h.found)
 
     same : record r.world {
       accepted = r.world.accepted ++ accepted_in n r.world.nodes r.book r.book.transactions;
