@@ -12,6 +12,7 @@ use Rattle.at_model.specs.World.{HaveOwnAddresses, Hosts, World, nth}
 use Rattle.deliverables.specs.Deliverables.{deliverable}
 use Rattle.deliveries.specs.DeliverableNets.{AreNodeHosts, IsDeliverableNet}
 use Rattle.deliveries.specs.Deliveries.{IsCarried}
+use Rattle.model_laws.specs.ReachedWorlds.{Reached}
 use Rattle.node_at.specs.Doings.{Doing}
 use Rattle.node_at.specs.Endings.{TakesTurn}
 use Rattle.node_at.specs.Locals.{Asked}
@@ -106,4 +107,4 @@ ServeAsNets {S} told = (hosts : Hosts) (net : Net) (ms : ℕ → S) → AreNodeH
 
 -- and so they agree
 abbrev pub ServersAgree : {S : Type 0} → (S → Told) → Type 0
-ServersAgree {S} told = (hosts : Hosts) (net : Net) (ms : ℕ → S) → AreNodeHosts hosts → HaveOwnAddresses hosts → Serves told hosts net ms → (w : World) × IsWorldOf hosts net w × IsOneOutcome w
+ServersAgree {S} told = (hosts : Hosts) (net : Net) (ms : ℕ → S) → AreNodeHosts hosts → HaveOwnAddresses hosts → Serves told hosts net ms → (w : World) × Reached hosts w × IsWorldOf hosts net w × IsOneOutcome w

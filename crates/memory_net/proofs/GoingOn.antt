@@ -91,10 +91,11 @@ module _ (tell : HostsTellReceivers) (bases : ExamplesAreNodeBases) (closes : St
     (images : ChosenAreImages) (ask_so : ExamplesAskSo) (apart : ExamplesAreApart) (agree : ServersAgree told_of) where
   agrees : (count : ℕ) (hosts : List Host) (mails : List Mail) → count ≤ 8 → Stands count hosts mails → Agrees count hosts mails
   agrees count hosts mails few st =
-      let (w, is, outcome) = agree (example_hosts count) st.net st.sites (are tell bases closes nets crashes calls images count few) (apart count (omega (arith, few))) st.serves in
+      let (w, reached, is, outcome) = agree (example_hosts count) st.net st.sites (are tell bases closes nets crashes calls images count few) (apart count (omega (arith, few))) st.serves in
       record {
         net = st.net;
         world = w;
+        reached = reached;
         is = is;
         outcome = outcome;
         nodes = λ i h e. ((st.holds i h e).place, (st.holds i h e).here, (st.holds i h e).node);

@@ -70,4 +70,4 @@ agrees_wherever hosts w few reached = record {
 pub nets_agree : {S : Type 0} (told : S → Told) → NetsAreWorlds told → NetsAgree told
 nets_agree told worlds hosts net few run =
     let (w, reached, is) = worlds hosts net run in
-    (w, is, agrees_wherever hosts w few reached)
+    (w, reached, is, agrees_wherever hosts w few reached)

@@ -18,4 +18,4 @@ AgreesWherever = (hosts : Hosts) (w : World) → HaveOwnAddresses hosts → Reac
 
 -- and so among nodes that serve
 abbrev pub NetsAgree : {S : Type 0} → (S → Told) → Type 0
-NetsAgree told = (hosts : Hosts) (net : Net) → HaveOwnAddresses hosts → Runs told hosts net → (w : World) × IsWorldOf hosts net w × IsOneOutcome w
+NetsAgree told = (hosts : Hosts) (net : Net) → HaveOwnAddresses hosts → Runs told hosts net → (w : World) × Reached hosts w × IsWorldOf hosts net w × IsOneOutcome w

@@ -8,6 +8,7 @@ use Rattle.at_base.specs.declared.outs.Post.{Post}
 use Rattle.at_model.specs.Recovery.{last_incarnation}
 use Rattle.at_model.specs.Step.{plan}
 use Rattle.at_model.specs.World.{World, nth, Hosts, HaveOwnAddresses}
+use Rattle.model_laws.specs.ReachedWorlds.{Reached}
 use Rattle.site_model.specs.Told.{Told, Files, Is, Made, Between, Within}
 use Rattle.node_at.specs.Doings.{Doing}
 use Rattle.node_at.specs.Endings.{TakesTurn}
@@ -115,4 +116,4 @@ RunsOnMachines {S} told = (hosts : Hosts) (net : Net) (ms : ℕ → S) → RunsO
 
 -- and so they agree
 abbrev pub MachinesAgree : {S : Type 0} → (S → Told) → Type 0
-MachinesAgree {S} told = (hosts : Hosts) (net : Net) (ms : ℕ → S) → HaveOwnAddresses hosts → RunsOn told hosts net ms → (w : World) × IsWorldOf hosts net w × IsOneOutcome w
+MachinesAgree {S} told = (hosts : Hosts) (net : Net) (ms : ℕ → S) → HaveOwnAddresses hosts → RunsOn told hosts net ms → (w : World) × Reached hosts w × IsWorldOf hosts net w × IsOneOutcome w
