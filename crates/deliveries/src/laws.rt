@@ -71,8 +71,8 @@ pub fn serve_as_nets<S: Site>()
     nets_keep::<S>();
 }
 
-/// Agreement among such nodes, whatever is lost, repeated or reordered, and whatever their crashes leave (WS-AtomicTransaction 1.2,
-/// section 1).
+/// Agreement among such nodes in the world that they show, whatever is lost, repeated or reordered, and whatever their crashes leave: of no
+/// transaction, by what their own steps accepted, do two participants end differently (WS-AtomicTransaction 1.2, section 1).
 pub fn servers_agree<S: Site>()
     ensures { ServersAgree S.told }
 {

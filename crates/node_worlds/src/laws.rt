@@ -26,8 +26,8 @@ pub fn turns_lead()
     walks_the_due();
 }
 
-/// Whatever nodes do that serve and post to one another, over any machine: they are a world that the model reaches, in which each
-/// has the book and the records that it has here, and in which the same was posted and the same happened.
+/// Whatever nodes do that serve and post to one another, over any machine: the world that they show is one that the model reaches, in
+/// which each has the book and the records that it has here, and in which the same was posted and accepted and the same happened.
 pub fn nets_are_worlds<S: Site>()
     ensures { NetsAreWorlds S.told }
 {
@@ -58,7 +58,8 @@ pub fn agrees_wherever()
     ensures { AgreesWherever }
 {}
 
-/// Agreement among nodes with addresses of their own that serve (WS-AtomicTransaction 1.2, section 1).
+/// Agreement among nodes with addresses of their own that serve, in the world that they show: of no transaction, by what their own steps
+/// accepted, do two participants end differently (WS-AtomicTransaction 1.2, section 1).
 pub fn nets_agree<S: Site>()
     ensures { NetsAgree S.told }
 {
