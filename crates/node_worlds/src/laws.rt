@@ -1,6 +1,7 @@
 //! Laws of nodes that serve.
 
 ghost use Rattle.node_worlds.specs.Agreement.{AgreesWherever, NetsAgree};
+ghost use Rattle.node_worlds.specs.GrowingNets.{NetsGrow};
 ghost use Rattle.node_worlds.specs.KeptRecords.{NetsKeep};
 ghost use Rattle.node_worlds.specs.Leads.{StepsLead, TurnsLead};
 ghost use Rattle.node_worlds.specs.Nets.{NetsAreWorlds};
@@ -35,6 +36,12 @@ pub fn nets_are_worlds<S: Site>()
     recovers_the_compacted();
     shrinks_the_same();
 }
+
+/// What was posted and accepted among such nodes, and what happened, only grows: each net that they came through shows an earlier moment
+/// of the world that they show.
+pub fn nets_grow<S: Site>()
+    ensures { NetsGrow S.told }
+{}
 
 /// What each node of such a net keeps is what the records of its journal make of it.
 pub fn nets_keep<S: Site>()
