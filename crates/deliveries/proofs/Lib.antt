@@ -8,3 +8,4 @@ pub mod CalledOuts
 pub mod SilentCalls
 pub mod TriedOuts
 pub mod Letters
+pub mod GrowingServers

@@ -3,6 +3,7 @@
 ghost use Rattle.deliveries.specs.ByteNets.{ServeAsNets, ServersAgree};
 ghost use Rattle.deliveries.specs.DeliverableNets.{NetsCanDeliver};
 ghost use Rattle.deliveries.specs.Deliveries.{PostsBring};
+ghost use Rattle.deliveries.specs.GrowingServers.{ServersGrow};
 ghost use Rattle.deliveries.specs.Letters.{CallsPost};
 
 use arrivals::laws::heads_are_bases;
@@ -71,8 +72,14 @@ pub fn serve_as_nets<S: Site>()
     nets_keep::<S>();
 }
 
-/// Agreement among such nodes, whatever is lost, repeated or reordered, and whatever their crashes leave (WS-AtomicTransaction 1.2,
-/// section 1).
+/// What was posted and accepted among such nodes, and what happened, only grows: each net that they came through shows an earlier moment
+/// of the world that they show.
+pub fn servers_grow<S: Site>()
+    ensures { ServersGrow S.told }
+{}
+
+/// Agreement among such nodes in the world that they show, whatever is lost, repeated or reordered, and whatever their crashes leave: of no
+/// transaction, by what their own steps accepted, do two participants end differently (WS-AtomicTransaction 1.2, section 1).
 pub fn servers_agree<S: Site>()
     ensures { ServersAgree S.told }
 {

@@ -50,7 +50,7 @@ use Rattle.node_at.specs.declared.node.Node.{Node}
 use Rattle.node_events.specs.NodeEvents.{Leads, RequestsAreEvents, front_by, struck}
 use Rattle.node_worlds.proofs.Places.{nth_this}
 use Rattle.node_worlds.specs.Nets.{Place, after, broken, rested}
-use Rattle.node_worlds.specs.SentPosts.{recorded, records_by}
+use Rattle.node_worlds.specs.SentPosts.{accepted_between, recorded, records_by}
 use Rattle.site_memory.specs.Devices.{calls_in, opening_in}
 use Rattle.site_memory.specs.Sites.{told_of}
 use Rattle.site_memory.specs.declared.arm.Choice.{Choice}
@@ -151,7 +151,8 @@ module _ (L : NetLaws) (K : TurnLaws) (torn : AppendsTorn) (asks : RequestsAreEv
         let leads = ask.leads fates until (subst (λ fs. StartsWith fs fates) fates_are asked.fates_are) (subst (λ fs. IsBeyond until (length fs)) fates_are asked.beyond) in
         let rs : List Record = records_by (if_landed D.3.3.landed (plan n.book (events.Local request) D.3.0).entry) in
         let put : Place = record { node = Some (seen T.node); records = place.records ++ rs } in
-        let behind = sees (example_hosts count) (after (example_hosts count) i M.stands.net place (seen T.node) rs (posts_of ask.fated.ways)) (world_step w event) i put leads.world (nth_this M.stands.net.places i place put at_place) in
+        let behind = sees (example_hosts count) (after (example_hosts count) i M.stands.net place (seen T.node) rs (posts_of ask.fated.ways)
+        (accepted_between (example_hosts count) i (seen n).book (seen T.node).book)) (world_step w event) i put leads.world (nth_this M.stands.net.places i place put at_place) in
         let recorded_so = adds w event place.records rs was.journal behind.journal in
         by_up (followed l w event f) g T.node left.0
         (subst (λ z. FollowsNode z (seen T.node) g.site) (sym (stepped_up l w event f rs recorded_so behind.up))
@@ -164,7 +165,7 @@ module _ (L : NetLaws) (K : TurnLaws) (torn : AppendsTorn) (asks : RequestsAreEv
         let not_before : until ≡ Some 0 → ⊥ = λ e.
         let k : IsBeyond (Some 0) (length (fates_in (drop 0 []))) = subst (λ ms. IsBeyond (Some 0) (length (fates_in (drop 0 ms)))) none (subst (λ o. IsBeyond o (length (fates_in (drop 0 T.made)))) e asked.beyond) in
         omega (arith, k) in
-        let leads = asks.refused (example_hosts count) M.stands.net w i place in_there.node (seen n) request (refusal_of why) fates until in_there.is_at R.1 not_before in
+        let leads = asks.refused (example_hosts count) M.stands.net w i place in_there.node (seen n) request (refusal_of why) fates until in_there.is_at R.1 in_there.order not_before in
         let put : Place = record { node = Some (cleared (seen n)); records = place.records } in
         let behind = sees (example_hosts count) (rested i M.stands.net place (seen n)) (world_step w event) i put leads.world (nth_this M.stands.net.places i place put at_place) in
         let recorded_so = adds w event place.records [] was.journal (behind.journal ∙ sym (append-nil place.records)) in

@@ -47,7 +47,7 @@ use Rattle.node_at.specs.declared.turn.Turned.TheVariants as turneds
 use Rattle.node_events.specs.NodeEvents.{Leads, StartsAreEvents}
 use Rattle.node_worlds.proofs.Places.{nth_this}
 use Rattle.node_worlds.specs.Nets.{Place, after}
-use Rattle.node_worlds.specs.SentPosts.{recorded}
+use Rattle.node_worlds.specs.SentPosts.{accepted_along, recorded}
 use Rattle.possible_events.specs.PossibleEvents.{IsStruckAnew}
 use Rattle.schedules.specs.declared.line.Leaves.{Leaves}
 use Rattle.schedules.specs.declared.line.Leaves.TheVariants as leaves
@@ -137,7 +137,8 @@ module _ (L : NetLaws) (K : TurnLaws) (Cr : CrashesAreFollowed) (S : StepsAreFol
         subst (λ ss. FollowsNode (grown (recorded ss) f) turn.node turn.behind) H.did.steps_are
         (S.turned f turn.first All (seen n) turn.node from turn.behind followed_before turn.steps (λ e. subst IsWhole e H.ends))
 
-    leads : Leads (example_hosts count) i H.did.now w event (after (example_hosts count) i M.stands.net place (seen T.node) (recorded H.did.whole.steps) (all_posts H.is_turn.fated))
+    leads : Leads (example_hosts count) i H.did.now w event (after (example_hosts count) i M.stands.net place (seen T.node) (recorded H.did.whole.steps)
+        (all_posts H.is_turn.fated) (accepted_along (example_hosts count) i (seen n).book H.did.whole.steps))
     leads =
         H.is_turn.leads fates until
         (starts_so L K count hosts clocks mails more w i c h g n input lines bytes old fates until a call few M least here up time brought set T whole)
@@ -148,7 +149,8 @@ module _ (L : NetLaws) (K : TurnLaws) (Cr : CrashesAreFollowed) (S : StepsAreFol
 
     behind : Sees (world_step w event) i put
     behind =
-        sees (example_hosts count) (after (example_hosts count) i M.stands.net place (seen T.node) (recorded H.did.whole.steps) (all_posts H.is_turn.fated)) (world_step w event) i put leads.world
+        sees (example_hosts count) (after (example_hosts count) i M.stands.net place (seen T.node) (recorded H.did.whole.steps) (all_posts H.is_turn.fated)
+        (accepted_along (example_hosts count) i (seen n).book H.did.whole.steps)) (world_step w event) i put leads.world
         (nth_this M.stands.net.places i place put (M.stands.holds i h here).here)
 
     was : Sees w i place

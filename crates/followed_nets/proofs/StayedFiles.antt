@@ -34,7 +34,7 @@ use Rattle.node_at.specs.declared.turn.Turned.TheVariants as turneds
 use Rattle.node_events.specs.NodeEvents.{Leads}
 use Rattle.node_worlds.proofs.Places.{nth_this}
 use Rattle.node_worlds.specs.Nets.{Place, after}
-use Rattle.node_worlds.specs.SentPosts.{recorded}
+use Rattle.node_worlds.specs.SentPosts.{accepted_along, recorded}
 use Rattle.site_memory.specs.Sites.{told_of}
 use Rattle.site_memory.specs.declared.machine.MemSite.{MemSite}
 use Rattle.site_model.specs.Counts.{Rose}
@@ -190,7 +190,8 @@ module _ (L : NetLaws) (K : TurnLaws) (S : StepsAreFollowed) (R : RewritingsAreF
         (renewed turn.first T.result T.node.shrunk turn.node (seen T.node) turn.behind T.site H.ends turn.ends) quiet T.remembers
 
     leads : Leads (example_hosts count) i H.did.now w (Turn i input fates until)
-        (after (example_hosts count) i M.stands.net place (seen T.node) (recorded H.did.whole.steps) (all_posts H.is_turn.fated))
+        (after (example_hosts count) i M.stands.net place (seen T.node) (recorded H.did.whole.steps) (all_posts H.is_turn.fated)
+        (accepted_along (example_hosts count) i (seen n).book H.did.whole.steps))
     leads =
         let are = heard_fates count w M.stands.net i c place there.node n T.node from T.site T.result turn input lines T.made H fates until asked in
         H.is_turn.leads fates until (subst (λ fs. StartsWith fs fates) are asked.fates_are) (subst (λ fs. IsBeyond until (length fs)) are asked.beyond)
@@ -200,7 +201,8 @@ module _ (L : NetLaws) (K : TurnLaws) (S : StepsAreFollowed) (R : RewritingsAreF
 
     behind : Sees (world_step w (Turn i input fates until)) i put
     behind =
-        sees (example_hosts count) (after (example_hosts count) i M.stands.net place (seen T.node) (recorded H.did.whole.steps) (all_posts H.is_turn.fated)) (world_step w (Turn i input fates until)) i put leads.world
+        sees (example_hosts count) (after (example_hosts count) i M.stands.net place (seen T.node) (recorded H.did.whole.steps) (all_posts H.is_turn.fated)
+        (accepted_along (example_hosts count) i (seen n).book H.did.whole.steps)) (world_step w (Turn i input fates until)) i put leads.world
         (nth_this M.stands.net.places i place put (M.stands.holds i h here).here)
 
     was : Sees w i place

@@ -27,7 +27,7 @@ use Rattle.node_worlds.specs.Lives.{Requests}
 use Rattle.node_worlds.specs.Machines.{Begins, Crashes, IsLeft}
 use Rattle.node_worlds.specs.Restarts.{StandsFor}
 use Rattle.node_worlds.specs.Nets.{Place, after, as_far, broken, posts_from, rested, with_start, with_started, without}
-use Rattle.node_worlds.specs.SentPosts.{recorded, records_by}
+use Rattle.node_worlds.specs.SentPosts.{accepted_between, recorded, records_by}
 use Rattle.node_worlds.proofs.Places.{nth_this}
 use Rattle.site_memory.specs.Devices.{calls_in, opening_in}
 use Rattle.site_memory.specs.Disk.{ChosenAreImages, chosen_files}
@@ -149,7 +149,7 @@ module _ (tell : HostsTellReceivers) (bases : ExamplesAreNodeBases) (closes : St
       done_on id m t done node site goes_on =
           let (ps, sent, posts) = calls.requests id (seen n) (seen m) request (st.sites i) t done in
           let rs = records_by (if_landed done.3.3.landed (plan n.book (events.Local request) done.3.0).entry) in
-          let w = after (example_hosts count) i st.net this.place (seen m) rs ps in
+          let w = after (example_hosts count) i st.net this.place (seen m) rs ps (accepted_between (example_hosts count) i (seen n).book (seen m).book) in
           let ws = placed_at i t st.sites in
           let serves : Serves told_of (example_hosts count) w ws =
           Serves.asked st.net st.sites i this.place (seen n) (seen m) id request t ps st.serves this.here is_up' (ask_so request named).0 done sent (goes_so i t st.sites) refl in

@@ -24,7 +24,7 @@ use Rattle.node_at.specs.declared.turn.Turned.TheVariants as turneds
 use Rattle.node_worlds.specs.Crashes.{CrashesAreMet}
 use Rattle.node_worlds.specs.Machines.{IsLeft}
 use Rattle.node_worlds.specs.Nets.{after, as_far, broken, posts_from, steps_in}
-use Rattle.node_worlds.specs.SentPosts.{recorded}
+use Rattle.node_worlds.specs.SentPosts.{accepted_along, recorded}
 use Rattle.site_memory.specs.Devices.{calls_in, opening_in}
 use Rattle.site_memory.specs.Disk.{ChosenAreImages, chosen_files}
 use Rattle.site_memory.specs.Sites.{told_of}
@@ -140,7 +140,7 @@ module _ (tell : HostsTellReceivers) (bases : ExamplesAreNodeBases) (closes : St
       turned_on r m t turn runs goes_on node site =
           let (ps, sent, posts) = calls.turns r All m.shrunk (seen n) (seen m) (sites i) t turn runs in
           let steps = steps_in turn.first All (seen n) turn.node (told_of (sites i)) (told_of turn.behind) turn.steps in
-          let w = after (example_hosts count) i st.net hold.place (seen m) (recorded steps) ps in
+          let w = after (example_hosts count) i st.net hold.place (seen m) (recorded steps) ps (accepted_along (example_hosts count) i (seen n).book steps) in
           let ws = placed_at i t sites in
           let serves : Serves told_of (example_hosts count) w ws =
           Serves.turned st.net sites i hold.place (seen n) (seen m) r All m.shrunk t ps waits hold.here is_up turn runs (λ _. carries) sent (goes_so i t sites) refl in

@@ -89,17 +89,12 @@ opened count h hosts long fresh all = record {
 
 module _ (tell : HostsTellReceivers) (bases : ExamplesAreNodeBases) (closes : StaysClosed told_of) (nets : ServeAsNets told_of) (crashes : CrashesAreMet told_of) (calls : CallsPost told_of)
     (images : ChosenAreImages) (ask_so : ExamplesAskSo) (apart : ExamplesAreApart) (agree : ServersAgree told_of) where
-  agrees : (count : ℕ) (hosts : List Host) (mails : List Mail) → count ≤ 8 → Stands count hosts mails → Agrees count hosts mails
-  agrees count hosts mails few st =
-      let (w, is, outcome) = agree (example_hosts count) st.net st.sites (are tell bases closes nets crashes calls images count few) (apart count (omega (arith, few))) st.serves in
-      record {
-        net = st.net;
-        world = w;
-        is = is;
-        outcome = outcome;
-        nodes = λ i h e. ((st.holds i h e).place, (st.holds i h e).here, (st.holds i h e).node);
-        letters = st.letters;
-      }
+  agrees : (count : ℕ) (hosts : List Host) (mails : List Mail) → count ≤ 8 → (st : Stands count hosts mails) → Agrees count hosts mails st.net
+  agrees count hosts mails few st = record {
+    agreed = agree (example_hosts count) st.net st.sites (are tell bases closes nets crashes calls images count few) (apart count (omega (arith, few))) st.serves;
+    nodes = λ i h e. ((st.holds i h e).place, (st.holds i h e).here, (st.holds i h e).node);
+    letters = st.letters;
+  }
 
   pub go_on : GoOn
   go_on = record {

@@ -23,5 +23,5 @@ pub record GoOn : Type 0 where
   pub downed : (count : ℕ) (hosts : List Host) (mails : List Mail) (i : ℕ) (h g : Host) (n : Node) → count ≤ 8 → Stands count hosts mails → 1 ≤ i → nth i hosts ≡ Some h → h.node ≡ Some n → g.node ≡ None → Fell h.site g.site
       → Stands count (put_nth i g hosts) mails
   pub waited : (count : ℕ) (hosts : List Host) (mails : List Mail) (i : ℕ) (h g : Host) → count ≤ 8 → Stands count hosts mails → nth i hosts ≡ Some h → IsSet h g → Stands count (put_nth i g hosts) mails
-  -- and then there is agreement
-  pub agree : (count : ℕ) (hosts : List Host) (mails : List Mail) → count ≤ 8 → Stands count hosts mails → Agrees count hosts mails
+  -- and then there is agreement, of this very net
+  pub agree : (count : ℕ) (hosts : List Host) (mails : List Mail) → count ≤ 8 → (st : Stands count hosts mails) → Agrees count hosts mails st.net

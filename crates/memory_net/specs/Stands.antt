@@ -1,15 +1,15 @@
 -- What a net in memory stands for.
 use Rattle.std.specs.Prelude.{ℕ, List, [], ◌∷◌, ◌≡◌, ◌≤◌, ◌⊎◌, IfSome, Some, length, map, option_map, unwrap_or}
 use Rattle.addressing.specs.declared.post_to.PostTo.{PostTo}
-use Rattle.at_model.specs.World.{Posted, World, example_hosts, nth}
+use Rattle.at_model.specs.World.{Posted, example_hosts, nth}
 use Rattle.deliveries.specs.ByteNets.{IsNoMessage, Serves}
 use Rattle.http_post.specs.OutBytes.{post_of}
 use Rattle.model_laws.specs.Agreement.{IsIn}
 use Rattle.node_at.specs.State.{seen}
 use Rattle.node_at.specs.Texts.{goes_to}
 use Rattle.node_at.specs.declared.role.Role.TheVariants.{All}
-use Rattle.node_worlds.specs.Agreement.{IsOneOutcome}
-use Rattle.node_worlds.specs.Nets.{IsWorldOf, Net, Place}
+use Rattle.node_worlds.specs.Agreement.{IsAgreedNet}
+use Rattle.node_worlds.specs.Nets.{Net, Place}
 use Rattle.site_memory.specs.Sites.{told_of}
 use Rattle.site_memory.specs.declared.machine.MemSite.{MemSite}
 use Rattle.wire_posts.specs.Envelopes.{IsTextOf, action_in}
@@ -58,12 +58,9 @@ pub record Stands (count : ℕ) (hosts : List Host) (mails : List Mail) : Type 0
 abbrev pub MayBring : List Mail → ℕ → List ℕ → Type 0
 MayBring mails i bytes = ((m : Mail) × IsIn m mails × (m.receiver ≡ i) × (m.bytes ≡ bytes)) ⊎ IsNoMessage All bytes
 
--- Nodes and letters are those of a world in which there is agreement.
-pub record Agrees (count : ℕ) (hosts : List Host) (mails : List Mail) : Type 0 where
-  pub net : Net
-  pub world : World
-  pub is : IsWorldOf (example_hosts count) net world
-  pub outcome : IsOneOutcome world
+-- Nodes and letters are those of a net in which there is agreement.
+pub record Agrees (count : ℕ) (hosts : List Host) (mails : List Mail) (net : Net) : Type 0 where
+  pub agreed : IsAgreedNet (example_hosts count) net
   pub nodes : (i : ℕ) (h : Host) → nth i hosts ≡ Some h → (p : Place) × (nth i net.places ≡ Some p) × (p.node ≡ option_map seen h.node)
   pub letters : AreMailsOf net.posted mails
 

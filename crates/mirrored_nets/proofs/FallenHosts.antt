@@ -9,6 +9,7 @@ use Rattle.decision_log.specs.ShrunkJournals.{ShrinksTheSame}
 use Rattle.deliverables.specs.Bases.{ExamplesAreNodeBases}
 use Rattle.deliveries.specs.ByteNets.{ServeAsNets, Serves}
 use Rattle.deliveries.specs.Letters.{AreLetters, CallsPost, posts_in}
+use Rattle.interposition.proofs.DueWalks.{walks_the_due}
 use Rattle.memory_net.specs.Calls.{IsServing}
 use Rattle.memory_net.specs.Closed.{AsksOf, HostsTellReceivers, StaysClosed, closed}
 use Rattle.memory_net.specs.Mails.{Mail, mails_in}
@@ -19,6 +20,9 @@ use Rattle.memory_net.proofs.Standing.{alone_where, comes_on, mails_join, placed
 use Rattle.mirrored_nets.specs.Mirrors.{AreOfTwo, Mirrors}
 use Rattle.mirrored_nets.specs.Took.{FellBack}
 use Rattle.mirrored_nets.proofs.Remirrored.{remirror_to}
+use Rattle.model_laws.proofs.Compactions.{recovers_the_compacted}
+use Rattle.model_laws.proofs.Order.{ids_rise}
+use Rattle.model_laws.specs.Order.{IsInOrder}
 use Rattle.node_at.specs.State.{seen}
 use Rattle.node_at.specs.TurnText.{TurnStep}
 use Rattle.node_at.specs.declared.node.Node.{Node}
@@ -29,7 +33,8 @@ use Rattle.node_worlds.specs.Machines.{IsLeft, IsOn}
 use Rattle.node_worlds.specs.Nets.{IsWorldOf, Place, as_far, broken, posts_from}
 use Rattle.node_worlds.specs.Restarts.{RestartsOnRecords}
 use Rattle.node_worlds.specs.SentPosts.{recorded}
-use Rattle.node_worlds.proofs.Machines.{all_fit}
+use Rattle.node_worlds.proofs.Machines.{all_fit, runs_on_machines}
+use Rattle.node_worlds.proofs.NetWorlds.{book_order}
 use Rattle.record_bytes.specs.Versions.{AreBodies as RecordsAreBodies}
 use Rattle.site_memory.specs.Devices.{calls_in, opening_in}
 use Rattle.site_memory.specs.Disk.{ChosenAreImages, chosen_files}
@@ -112,6 +117,7 @@ module _ (L : NetLaws) (count : ℕ) (few : count ≤ 8) (hosts : List Host) (cl
     pub known : nth i w.nodes ≡ Some node
     pub is_at : IsAt (example_hosts count) M.stands.net w i hold.place node (seen n)
     pub clock : node.clock ≡ c
+    pub order : IsInOrder n.book
 
   pub in_world : InWorld
   in_world =
@@ -121,6 +127,10 @@ module _ (L : NetLaws) (count : ℕ) (few : count ≤ 8) (hosts : List Host) (cl
         known = known;
         is_at = record { world = M.world; place = hold.here; node = known; up = is_up; reach = M.reach };
         clock = M.clocks_are i c x time known;
+        order = book_order (walks_the_due ids_rise) recovers_the_compacted L.shrinks told_of (example_hosts count) M.stands.net
+            (runs_on_machines L.bodies L.grows L.shrinks told_of L.restarts (example_hosts count) M.stands.net sites
+            (L.nets (example_hosts count) M.stands.net sites (are L.tell L.bases L.closes L.nets L.crashes L.calls L.images count few) waits).runs)
+            i hold.place (seen n) hold.here is_up;
       }
 
   -- the net behind these steps, as the world is then

@@ -83,6 +83,7 @@ opening_world hosts = record {
         },
       );
   posted = refl;
+  accepted = refl;
   happened = refl;
 }
 

@@ -29,7 +29,7 @@ use Rattle.node_worlds.specs.Acts.{IsUp}
 use Rattle.node_worlds.specs.Machines.{Crashes, IsLeft, IsOn}
 use Rattle.node_worlds.specs.Nets.{IsWorldOf, Net, Place, after, as_far, begun_in, broken, doings_in, posts_from, steps_in, without}
 use Rattle.node_worlds.specs.Restarts.{StandsFor}
-use Rattle.node_worlds.specs.SentPosts.{AreSent, recorded}
+use Rattle.node_worlds.specs.SentPosts.{AreSent, accepted_along, recorded}
 use Rattle.node_worlds.proofs.LifeLaws.{turn_did}
 use Rattle.node_worlds.proofs.Places.{nth_this}
 use Rattle.node_worlds.proofs.Rows.{sent_append}
@@ -65,7 +65,8 @@ moves_on i now later w v z a b same = record {
 
 -- the end of a node that did these steps
 ended_so : (hosts : Hosts) (i : ℕ) (net : Net) (p : Place) (n m : State) (steps : List TurnStep) (posts : List Post) → m.book ≡ book_behind n.book steps → m.effects ≡ came_of steps
-    → without i (after hosts i net p m (recorded steps) posts) (record { node = Some m; records = p.records ++ recorded steps }) m ≡ broken hosts i net p n steps posts
+    → without i (after hosts i net p m (recorded steps) posts (accepted_along hosts i n.book steps))
+    (record { node = Some m; records = p.records ++ recorded steps }) m ≡ broken hosts i net p n steps posts
 ended_so hosts i net p n m steps posts book effects = λ j. net_by (places j) (effects j) (book j)
   where
     down : Place
@@ -78,7 +79,12 @@ ended_so hosts i net p n m steps posts book effects = λ j. net_by (places j) (e
     places = put_put i net.places (up_as m) down ∙ sym (put_put i net.places (up_as (as_far n steps)) down)
 
     net_by : List Place → List Effect → Book → Net
-    net_by ps es b = record { places = ps; posted = net.posted ++ posts_from hosts i posts; happened = (net.happened ++ map (happened_at i) es) ++ lost_in i b }
+    net_by ps es b = record {
+      places = ps;
+      posted = net.posted ++ posts_from hosts i posts;
+      accepted = net.accepted ++ accepted_along hosts i n.book steps;
+      happened = (net.happened ++ map (happened_at i) es) ++ lost_in i b;
+    }
 
 module _ (L : NetLaws) (count : ℕ) (few : count ≤ 8) (hosts : List Host) (clocks : List ℕ) (mails more : List Mail) (w : World) (M : Mirrors count hosts clocks mails w) (i : ℕ) (h g : Host) (n : Node)
     (here : nth i hosts ≡ Some h) (up : h.node ≡ Some n) (c : ℕ) (time : nth i clocks ≡ Some c) (s : MemSite) (before : IsBefore h s) (m : Node) (t : MemSite) (r : Turned) where
@@ -127,7 +133,7 @@ module _ (L : NetLaws) (count : ℕ) (few : count ≤ 8) (hosts : List Host) (cl
 
     -- the net behind the steps, whose node is up
     abbrev behind_it : Net
-    behind_it = after (example_hosts count) i M.stands.net place (seen m) (recorded steps) posts
+    behind_it = after (example_hosts count) i M.stands.net place (seen m) (recorded steps) posts (accepted_along (example_hosts count) i (seen n).book steps)
 
     leads : Leads (example_hosts count) i H.did.now w event behind_it
     leads = H.is_turn.leads fates until starts_so ends_so
@@ -170,7 +176,7 @@ module _ (L : NetLaws) (count : ℕ) (few : count ≤ 8) (hosts : List Host) (cl
         serves =
             Serves.turned M.stands.net starts i place (seen n) (seen m) r All m.shrunk t posts (waits L count few hosts clocks mails more w M i h g n here up c time s before) (M.stands.holds i h here).here
             (is_up L count few hosts clocks mails more w M i h g n here up c time s before) turn going (λ _. H.carries) sent_so (goes_so i t starts)
-            (ap (λ ss. after (example_hosts count) i M.stands.net place (seen m) (recorded ss) posts) (sym H.did.steps_are))
+            (ap (λ ss. after (example_hosts count) i M.stands.net place (seen m) (recorded ss) posts (accepted_along (example_hosts count) i (seen n).book ss)) (sym H.did.steps_are))
 
         mails_are : AreMailsOf behind_it.posted more
         mails_are =

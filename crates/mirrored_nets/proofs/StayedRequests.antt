@@ -37,7 +37,7 @@ use Rattle.node_events.specs.CallEffects.{EffectsAgree}
 use Rattle.node_events.specs.NodeEvents.{IsAsk, RequestsAreEvents}
 use Rattle.node_events.proofs.WalkedSteps.{book_up}
 use Rattle.node_worlds.specs.Nets.{Net, Place, after, posts_from, rested}
-use Rattle.node_worlds.specs.SentPosts.{records_by}
+use Rattle.node_worlds.specs.SentPosts.{accepted_between, records_by}
 use Rattle.node_worlds.proofs.Rows.{sent_append}
 use Rattle.site_memory.specs.Devices.{calls_in}
 use Rattle.site_memory.specs.Sites.{told_of}
@@ -122,7 +122,8 @@ module _ (L : NetLaws) (K : TurnLaws) (requests : RequestsAreEvents) (ask_so : E
         (from_is ∙ sym stays ∙ sym site) (λ j f. placed_other i s M.stands.sites j f)
         (subst (AreMailsOf M.stands.net.posted) (sym (posted ∙ ap (λ ms. mails ++ mails_in i count (sent_by ms)) none_made ∙ append-nil mails)) M.stands.letters)
         (λ x e. ap (λ (z : Node). z.journal.limit) (sym (same_some m x (sym node ∙ e))) ∙ ap (λ (z : State). z.journal.limit) same ∙ M.limits i h n here up)
-        (requests.refused (example_hosts count) M.stands.net w i old_place there.node (seen n) request (refusal_of why) fates until there.is_at says not_before) (λ down. absurd (still_up down)))
+        (requests.refused (example_hosts count) M.stands.net w i old_place there.node (seen n) request
+        (refusal_of why) fates until there.is_at says there.order not_before) (λ down. absurd (still_up down)))
 
     refused_effects : EffectsAgree → HasEffects w (Ask i request fates until) m
     refused_effects agree =
@@ -174,7 +175,7 @@ module _ (L : NetLaws) (K : TurnLaws) (requests : RequestsAreEvents) (ask_so : E
     recorded_so = records_by (if_landed D.3.3.landed (plan n.book (events.Local request) now).entry)
 
     abbrev behind_it : Net
-    behind_it = after (example_hosts count) i M.stands.net old_place (seen m) recorded_so posts
+    behind_it = after (example_hosts count) i M.stands.net old_place (seen m) recorded_so posts (accepted_between (example_hosts count) i (seen n).book (seen m).book)
 
     serves : Serves told_of (example_hosts count) behind_it (placed_at i t starts)
     serves =

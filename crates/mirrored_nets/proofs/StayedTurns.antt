@@ -23,7 +23,7 @@ use Rattle.node_at.specs.declared.turn.Turned.{Turned}
 use Rattle.node_at.specs.declared.turn.Turned.TheVariants as turneds
 use Rattle.node_events.specs.NodeEvents.{Leads}
 use Rattle.node_worlds.specs.Nets.{Net, Place, after, doings_in, posts_from, steps_in}
-use Rattle.node_worlds.specs.SentPosts.{AreSent, recorded}
+use Rattle.node_worlds.specs.SentPosts.{AreSent, accepted_along, recorded}
 use Rattle.node_worlds.proofs.Rows.{sent_append}
 use Rattle.site_memory.specs.Sites.{told_of}
 use Rattle.site_memory.specs.declared.machine.MemSite.{MemSite}
@@ -84,7 +84,7 @@ module _ (L : NetLaws) (count : ℕ) (few : count ≤ 8) (hosts : List Host) (cl
     posts = all_posts H.is_turn.fated
 
     abbrev behind_it : Net
-    behind_it = after (example_hosts count) i M.stands.net old_place (seen m) (recorded H.did.whole.steps) posts
+    behind_it = after (example_hosts count) i M.stands.net old_place (seen m) (recorded H.did.whole.steps) posts (accepted_along (example_hosts count) i (seen n).book H.did.whole.steps)
 
     abbrev ends_at : ℕ → MemSite
     ends_at = placed_at i t starts
@@ -102,7 +102,7 @@ module _ (L : NetLaws) (count : ℕ) (few : count ≤ 8) (hosts : List Host) (cl
     serves =
         Serves.turned M.stands.net starts i old_place (seen n) (seen m) r All m.shrunk t posts (waits L count few hosts clocks mails more w M i h g n here up c time s before) (M.stands.holds i h here).here
         (is_up L count few hosts clocks mails more w M i h g n here up c time s before) turn (not_halted r whole) (λ _. H.carries) sent_so (goes_so i t starts)
-        (ap (λ ss. after (example_hosts count) i M.stands.net old_place (seen m) (recorded ss) posts) (sym steps_are))
+        (ap (λ ss. after (example_hosts count) i M.stands.net old_place (seen m) (recorded ss) posts (accepted_along (example_hosts count) i (seen n).book ss)) (sym steps_are))
 
     called : AllAreCalled H.did.whole.steps
     called =

@@ -4,7 +4,7 @@ use Rattle.std.proofs.Common.{ap, subst, ◌∙◌}
 use Rattle.std.proofs.Math.Seq.{drop-append_seam}
 use Rattle.at_base.specs.declared.outs.Post.{Post}
 use Rattle.at_base.specs.declared.record.Record.{Record}
-use Rattle.at_model.specs.World.{Hosts, Input, Node as Known, Turn, World, world_step}
+use Rattle.at_model.specs.World.{Accepted, Hosts, Input, Node as Known, Turn, World, world_step}
 use Rattle.followed_events.specs.FollowedEvents.{is_up, recorded_in, stepped}
 use Rattle.followed_files.specs.Crashes.{CrashesAreFollowed}
 use Rattle.followed_files.specs.Follows.{FollowsAt, FollowsHost, FollowsNode}
@@ -29,8 +29,8 @@ use Rattle.world_laws.specs.Runs.{journal_of}
 
 -- the records that the event adds
 pub adds_records : (hosts : Hosts) (net : Net) (w : World) (i : ℕ) (p : Place) (x : Known) (n m : State) → IsAt hosts net w i p x n → (input : Input) (fates : List Bool) (until : Option ℕ) (now : ℕ) (rs : List Record)
-    (ps : List Post) → Leads hosts i now w (Turn i input fates until) (after hosts i net p m rs ps) → recorded_in w (Turn i input fates until) ≡ rs
-adds_records hosts net w i p x n m at input fates until now rs ps leads =
+    (ps : List Post) (joins : List Accepted) → Leads hosts i now w (Turn i input fates until) (after hosts i net p m rs ps joins) → recorded_in w (Turn i input fates until) ≡ rs
+adds_records hosts net w i p x n m at input fates until now rs ps joins leads =
     let (z, here, was) = at.world.nodes i p at.place in
     let (y, there, stands) = leads.world.nodes i (record { node = Some m; records = p.records ++ rs }) (nth_this net.places i p (record { node = Some m; records = p.records ++ rs }) at.place) in
     (λ j. drop (length (journal_of (here j))) (journal_of (there j))) ∙ (λ j. drop (length (was.journal j)) (stands.journal j)) ∙ drop-append_seam p.records rs

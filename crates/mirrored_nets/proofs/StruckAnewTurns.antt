@@ -39,7 +39,7 @@ use Rattle.node_at.specs.declared.turn.Turned.TheVariants as turneds
 use Rattle.node_events.specs.NodeEvents.{IsInput}
 use Rattle.node_worlds.specs.Acts.{IsUp}
 use Rattle.node_worlds.specs.Nets.{Place}
-use Rattle.node_worlds.specs.SentPosts.{recorded}
+use Rattle.node_worlds.specs.SentPosts.{accepted_along, recorded}
 use Rattle.possible_events.specs.PossibleEvents.{place_anew}
 use Rattle.record_bytes.specs.Bytes.{bytes_of}
 use Rattle.schedules.specs.declared.line.Leaves.{Leaves}
@@ -304,7 +304,7 @@ module _ (calls : CallsFailAsTold) (hold : LinksHold) (L : NetLaws) (K : TurnLaw
   adds_so : recorded_in S.world event ≡ recorded H.did.whole.steps
   adds_so =
       adds_records (example_hosts count) M.stands.net S.world i p there.node (seen n) (seen m) there.is_at S.input fates until H.did.now (recorded H.did.whole.steps) (all_posts H.is_turn.fated)
-      (H.is_turn.leads fates until
+      (accepted_along (example_hosts count) i (seen n).book H.did.whole.steps) (H.is_turn.leads fates until
       (starts_so come walks count S.world M.stands.net i S.clock p there.node n m from new r turn S.input lines made H there.is_at since fails b least row which fates until asks)
       (beyond_so come walks count S.world M.stands.net i S.clock p there.node n m from new r turn S.input lines made H there.is_at since fails b least row which fates until asks))
 

@@ -1,9 +1,8 @@
 -- A net in memory that mirrors a world of the model.
-use Rattle.std.specs.Prelude.{ℕ, List, [], Option, false, ◌≡◌, ◌⊎◌, IfSome, None, Some, length}
+use Rattle.std.specs.Prelude.{ℕ, List, [], false, ◌≡◌, ◌⊎◌, IfSome, None, Some, length}
 use Rattle.std.specs.List.{AllByRecursion}
-use Rattle.at_base.specs.declared.epr.Epr.{Epr}
 use Rattle.at_base.specs.declared.record.Record.{Record}
-use Rattle.at_model.specs.World.{Node as Known, World, example_base, example_hosts, new_nodes, nth, receiver_of}
+use Rattle.at_model.specs.World.{Node as Known, World, example_base, example_hosts, new_nodes, nth, place_of}
 use Rattle.journal_at.specs.declared.version.Version.TheVariants.{One, Two}
 use Rattle.memory_net.specs.Calls.{IsServing}
 use Rattle.memory_net.specs.Mails.{Mail}
@@ -43,7 +42,7 @@ pub record Mirrors (count : ℕ) (hosts : List Host) (clocks : List ℕ) (mails 
   pub times : length clocks ≡ count
   pub nodes : length w.nodes ≡ count
   -- an address leads to the node whose base it has
-  pub reach : (to : Option Epr) → receiver_of w.nodes to ≡ receiver_of (new_nodes example_base count 1) to
+  pub reach : (address : List ℕ) → place_of 1 w.nodes address ≡ place_of 1 (new_nodes example_base count 1) address
   pub clocks_are : (i c : ℕ) (x : Known) → nth i clocks ≡ Some c → nth i w.nodes ≡ Some x → x.clock ≡ c
   -- a file of a journal has at most 4,294,967,295 bytes
   pub limits : (i : ℕ) (h : Host) (n : Node) → nth i hosts ≡ Some h → h.node ≡ Some n → n.journal.limit ≡ 4294967295

@@ -1,12 +1,14 @@
 -- What a node heard as the input of an event: the plan of the model, and the walk of the event.
-use Rattle.std.specs.Prelude.{ℕ, List, ◌+◌, ◌≡◌, Option, None, Some, true, if◌then◌else◌, refl}
+use Rattle.std.specs.Prelude.{ℕ, List, [], ◌+◌, ◌≡◌, Bool, Option, None, Some, true, if◌then◌else◌, refl}
 use Rattle.std.proofs.Common.{sym, subst, ap, ◌∙◌}
 use Rattle.std.proofs.lemmas.Bool.{eq-eqb}
 use Rattle.at_base.specs.declared.event.Event.TheVariants as events
 use Rattle.at_base.specs.declared.outs.Post.{Post}
 use Rattle.at_model.specs.Book.{Book}
 use Rattle.at_model.specs.Step.{Plan, plan}
-use Rattle.at_model.specs.World.{Deliver, Input, Node, Posted, Raw, Tick, World, answer_plan, arrival_plan, decoded, is_receiver, nth}
+use Rattle.at_model.specs.World.{Deliver, Input, Node, Posted, Raw, Tick, Traced, World, answer_plan, arrival_plan, decoded, deliver, delivery_trace, is_receiver, later, nth, take_turn, ticked, turn, turn_from, turn_trace, walked}
+use Rattle.model_laws.proofs.Addresses.{HaveBases}
+use Rattle.model_laws.proofs.Nodes.{bases_put, same_bases}
 use Rattle.node_at.specs.Meanings.{Meaning}
 use Rattle.node_at.specs.Meanings.Meaning.{Lost, Refused, Steps}
 use Rattle.node_at.specs.Steps.{status_in}
@@ -27,11 +29,17 @@ IsTold Raw = ⊥
 abbrev pub IsStatusOf : Plan → TurnStep → ℕ → Type 0
 IsStatusOf p s status = status ≡ status_in (outcome_by p s.landed).outs
 
--- The plan of an input, the walk that it begins, and the step that a node does for it, with what that answers.
+-- The plan of an input, the walk that it begins, the world in which its turn begins, and the step that a node does for it, with what that
+-- answers.
 pub record Heard (w : World) (i : ℕ) (x : Node) (b : Book) (input : Input) (meaning : Meaning) (now : ℕ) : Type 0 where
   pub begun : Plan
   pub is : input_plan i input w.posted x (Some b) ≡ Some begun
   pub moves : (l : Luck) → input_move i input l w.posted x (Some b) ≡ turn_move now x b begun l
+  pub start : World
+  pub accepted : start.accepted ≡ w.accepted
+  pub bases : nth i w.nodes ≡ Some x → HaveBases start.nodes w.nodes
+  pub begins : (fates : List Bool) (until : Option ℕ) → turn i input fates until x b w ≡ take_turn i now begun (turn_from start b fates until)
+  pub traces : (fates : List Bool) (until : Option ℕ) → turn_trace i input fates until x b w ≡ (walked i now begun (turn_from start b fates until)).trace
   pub first : (s : TurnStep) (status : ℕ) → IsFirst b now meaning s status → IsStepOf begun s
   pub answers : IsTold input → (s : TurnStep) (status : ℕ) → IsFirst b now meaning s status → IsStatusOf begun s status
   pub told : meaning ≡ Lost → ⊥
@@ -72,6 +80,26 @@ delivery_heard i x b now found p e to same = (
     here : is_receiver i p.receiver ≡ true
     here = receives i p.receiver to
 
+delivery_begins : (w : World) (i : ℕ) (x : Node) (b : Book) (now : ℕ) (found : Option Posted) (p : Posted) → found ≡ Some p → p.receiver ≡ Some i → now ≡ x.clock
+    → (fates : List Bool) (until : Option ℕ)
+    → (deliver i x b fates until found w ≡ take_turn i now (arrival_plan b x.clock (decoded x.base p.content)) (turn_from w b fates until))
+    × (delivery_trace i x b fates until found w ≡ (walked i now (arrival_plan b x.clock (decoded x.base p.content)) (turn_from w b fates until)).trace)
+delivery_begins w i x b now found p e to same fates until = (
+  ap (λ o. deliver i x b fates until o w) e ∙ ap (λ t. if t then take_turn i x.clock d (turn_from w b fates until) else w) here
+      ∙ ap (λ t. take_turn i t d (turn_from w b fates until)) (sym same),
+  ap (λ o. delivery_trace i x b fates until o w) e ∙ ap (λ t. if t then (walked i x.clock d (turn_from w b fates until)).trace else none) here
+      ∙ ap (λ t. (walked i t d (turn_from w b fates until)).trace) (sym same),
+)
+  where
+    d : Plan
+    d = arrival_plan b x.clock (decoded x.base p.content)
+
+    none : List Traced
+    none = []
+
+    here : is_receiver i p.receiver ≡ true
+    here = receives i p.receiver to
+
 -- a tick, and bytes that are refused
 tick_first : (b : Book) (now clock : ℕ) (meaning : Meaning) → meaning ≡ Steps events.Tick → now ≡ clock → (s : TurnStep) (status : ℕ) → IsFirst b now meaning s status
     → IsStepOf (plan b events.Tick clock) s
@@ -107,6 +135,11 @@ heard w i x b (Deliver k) meaning now (p, found, to, brings, same) =
       begun = arrival_plan b x.clock (decoded x.base p.content);
       is = is;
       moves = moves;
+      start = w;
+      accepted = refl;
+      bases = λ here. same_bases w.nodes;
+      begins = λ fates until. (delivery_begins w i x b now (nth k w.posted) p found to same fates until).0;
+      traces = λ fates until. (delivery_begins w i x b now (nth k w.posted) p found to same fates until).1;
       first = taken_first x.base p.content b now x.clock meaning brings same;
       answers = λ _. taken_status x.base p.content b now x.clock meaning brings same;
       told = taken_told x.base p.content meaning brings;
@@ -115,6 +148,11 @@ heard w i x b (Tick ms) meaning now (says, same) = record {
   begun = plan b events.Tick (x.clock + ms);
   is = refl;
   moves = λ l. ap (λ t. turn_move t x b (plan b events.Tick (x.clock + ms)) l) (sym same);
+  start = ticked i (later ms x) w;
+  accepted = refl;
+  bases = λ here. bases_put w.nodes w.nodes i x (later ms x) here refl (same_bases w.nodes);
+  begins = λ fates until. ap (λ t. take_turn i t (plan b events.Tick (x.clock + ms)) (turn_from (ticked i (later ms x) w) b fates until)) (sym same);
+  traces = λ fates until. ap (λ t. (walked i t (plan b events.Tick (x.clock + ms)) (turn_from (ticked i (later ms x) w) b fates until)).trace) (sym same);
   first = tick_first b now (x.clock + ms) meaning says same;
   answers = λ _. tick_status b now (x.clock + ms) meaning says same;
   told = not_lost meaning (Steps events.Tick) says steps_told;
@@ -123,6 +161,11 @@ heard w i x b Raw meaning now (answer, text, says, same) = record {
   begun = answer_plan b 400;
   is = refl;
   moves = λ l. ap (λ t. turn_move t x b (answer_plan b 400) l) (sym same);
+  start = w;
+  accepted = refl;
+  bases = λ here. same_bases w.nodes;
+  begins = λ fates until. ap (λ t. take_turn i t (answer_plan b 400) (turn_from w b fates until)) (sym same);
+  traces = λ fates until. ap (λ t. (walked i t (answer_plan b 400) (turn_from w b fates until)).trace) (sym same);
   first = raw_first b now answer text meaning says;
   answers = λ untold. absurd untold;
   told = not_lost meaning (Refused answer text) says (refused_told answer text);

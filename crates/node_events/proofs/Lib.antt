@@ -5,6 +5,8 @@ pub mod FatedSteps
 pub mod GivenSteps
 pub mod HaltEvents
 pub mod HeardInputs
+pub mod Acceptances
+pub mod EventAcceptances
 pub mod LeavingOuts
 pub mod MovedWorlds
 pub mod OwnFates

@@ -3,8 +3,9 @@ use Rattle.std.specs.Prelude.{ℕ, List, [], ◌∷◌, ◌++◌, ◌≡◌, ◌
 use Rattle.std.proofs.Common.{inl, inr, sym, subst, ap, ◌∙◌}
 use Rattle.std.proofs.lemmas.Bool.{cases_eq}
 use Rattle.std.proofs.lemmas.List.{append-nil, append_assoc}
-use Rattle.at_model.specs.World.{Happened, Hosts, Node, Posted, World, WorldEvent, happened_at, node_of, nth, put_nth, receiver_of, world_step}
-use Rattle.model_laws.proofs.Nodes.{bases_put, receiver_same, same_bases}
+use Rattle.at_model.specs.World.{Accepted, Happened, Hosts, Node, Posted, World, WorldEvent, happened_at, node_of, nth, place_of, put_nth, world_step}
+use Rattle.model_laws.proofs.Addresses.{same_place}
+use Rattle.model_laws.proofs.Nodes.{bases_put, same_bases}
 use Rattle.node_events.specs.NodeEvents.{Leads}
 use Rattle.node_worlds.specs.Nets.{IsWorldOf, Net, Place, StandsAs}
 use Rattle.node_worlds.proofs.Places.{nth_other, nth_this}
@@ -79,24 +80,33 @@ stands_at hosts net w i p x world here found =
     let (z, there, is) = world.nodes i p here in
     subst (StandsAs hosts i p) (same_some z x (sym there ∙ found)) is
 
--- What a move leaves of its node and its place, of what was posted, and of what happened.
-pub record Moves (hosts : Hosts) (now : ℕ) (w : World) (e : WorldEvent) (x : Node) (q : Place) (posted : List Posted) (happened : List Happened) : Type 0 where
+-- What a move leaves of its node and its place, of what was posted and accepted, and of what happened.
+pub record Moves (hosts : Hosts) (now : ℕ) (w : World) (e : WorldEvent) (x : Node) (q : Place) (posted : List Posted) (accepted : List Accepted)
+    (happened : List Happened) : Type 0 where
   pub move : Move
   pub is : move_of e w.posted x ≡ move
   pub stands : StandsAs hosts (node_of e) q move.node
   pub clock : move.node.clock ≡ now
   pub posts : posted_by (node_of e) w.nodes move.moved.taken ≡ posted
+  pub accepts : (world_step w e).accepted ≡ w.accepted ++ accepted
   pub came : happened_by (node_of e) move.moved.taken ++ map (happened_at (node_of e)) move.moved.lost ≡ happened
 
-pub move_leads : ChangesByMoves → (hosts : Hosts) (now : ℕ) (net : Net) (w : World) (e : WorldEvent) (p q : Place) (x : Node) (posted : List Posted) (happened : List Happened)
-    → IsWorldOf hosts net w → nth (node_of e) net.places ≡ Some p → nth (node_of e) w.nodes ≡ Some x → Moves hosts now w e x q posted happened
-    → Leads hosts (node_of e) now w e (record { places = put_nth (node_of e) q net.places; posted = net.posted ++ posted; happened = net.happened ++ happened })
-move_leads law hosts now net w e p q x posted happened world here found m = record {
+pub move_leads : ChangesByMoves → (hosts : Hosts) (now : ℕ) (net : Net) (w : World) (e : WorldEvent) (p q : Place) (x : Node) (posted : List Posted) (accepted : List Accepted)
+    (happened : List Happened)
+    → IsWorldOf hosts net w → nth (node_of e) net.places ≡ Some p → nth (node_of e) w.nodes ≡ Some x → Moves hosts now w e x q posted accepted happened
+    → Leads hosts (node_of e) now w e (record {
+      places = put_nth (node_of e) q net.places;
+      posted = net.posted ++ posted;
+      accepted = net.accepted ++ accepted;
+      happened = net.happened ++ happened;
+    })
+move_leads law hosts now net w e p q x posted accepted happened world here found m = record {
   world = record {
     nodes = λ j r f.
         let (z, there, is) = places_put hosts net.places w.nodes i p q x y here found m.stands world.nodes j r f in
         (z, ap (nth j) nodes ∙ there, is);
     posted = ap (λ (s : Scene). s.posted) scene ∙ (λ j. world.posted j ++ m.posts j);
+    accepted = m.accepts ∙ ap (λ z. z ++ accepted) world.accepted;
     happened = ap (λ (s : Scene). s.happened) scene ∙ append_assoc w.happened (happened_by i m.move.moved.taken) (map (happened_at i) m.move.moved.lost) ∙ (λ j. world.happened j ++ m.came j);
   };
   moves = record {
@@ -104,7 +114,8 @@ move_leads law hosts now net w e p q x posted happened world here found m = reco
     this = ap (nth i) nodes ∙ nth_this w.nodes i x y found;
     clock = m.clock;
     others = λ j f. ap (nth j) nodes ∙ nth_other w.nodes j i y f;
-    reach = λ to. ap (λ xs. receiver_of xs to) nodes ∙ receiver_same (put_nth i y w.nodes) w.nodes to (bases_put w.nodes w.nodes i x y found (sym same) (same_bases w.nodes));
+    reach = λ address. ap (λ xs. place_of 1 xs address) nodes ∙ same_place 1 (put_nth i y w.nodes) w.nodes address
+        (bases_put w.nodes w.nodes i x y found (sym same) (same_bases w.nodes));
   };
 }
   where

@@ -141,5 +141,5 @@ requests_are_events walks moves = record {
   whole = λ hosts net w i p x n m l step doing at is does sure book came. whole_asks walks moves hosts net w i p x n l at m step doing is does book came;
   stopped = λ hosts net w i p x n l step doing f at is planned fared left before last less. struck_asks walks moves hosts net w i p x n l at step doing f is planned fared left before last less;
   halted = λ hosts net w i p x n l step entry stood at is e landed. halted_leads walks moves hosts net w i p x n l at step entry stood is e landed;
-  refused = λ hosts net w i p x n l why fates until at e runs. refused_leads walks moves hosts net w i p x n l at why fates until e runs;
+  refused = λ hosts net w i p x n l why fates until at e order runs. refused_leads walks moves hosts net w i p x n l at why fates until e order runs;
 }

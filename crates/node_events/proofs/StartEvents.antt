@@ -15,6 +15,7 @@ use Rattle.node_worlds.specs.Nets.{IsWorldOf, Net, Place, StandsAs, with_start, 
 use Rattle.world_laws.proofs.Nodes.{put_same}
 use Rattle.world_laws.specs.Moves.{ChangesByMoves, crash_move, lost_of, move_of, nothing, quiet, start_move}
 use Rattle.node_events.specs.NodeEvents.{Leads, StartsAreEvents}
+use Rattle.node_events.proofs.EventAcceptances.{crash_accepts, up_accepts}
 use Rattle.node_events.proofs.MovedWorlds.{move_leads, stands_at}
 
 -- the node behind a start
@@ -37,8 +38,16 @@ module _ (moves : ChangesByMoves) (hosts : Hosts) (net : Net) (w : World) (i : �
       → Leads hosts i x.clock w (Up i landed stop) (record net { places = put_nth i q net.places })
   starts_as landed stop q y move so clock =
       subst (Leads hosts i x.clock w (Up i landed stop))
-      (λ j. record { places = put_nth i q net.places; posted = append-nil net.posted j; happened = append-nil net.happened j })
-      (move_leads moves hosts x.clock net w (Up i landed stop) p q x [] [] is here found (record { move = quiet y; is = move; stands = so; clock = clock; posts = refl; came = refl }))
+      (λ j. record { places = put_nth i q net.places; posted = append-nil net.posted j; accepted = append-nil net.accepted j; happened = append-nil net.happened j })
+      (move_leads moves hosts x.clock net w (Up i landed stop) p q x [] [] [] is here found (record {
+        move = quiet y;
+        is = move;
+        stands = so;
+        clock = clock;
+        posts = refl;
+        accepts = up_accepts w i landed stop ∙ sym (append-nil w.accepted);
+        came = refl;
+      }))
 
   module _ (down : p.node ≡ None) where
     no_book : x.book ≡ None
@@ -64,13 +73,20 @@ module _ (moves : ChangesByMoves) (hosts : Hosts) (net : Net) (w : World) (i : �
 
   pub ended_leads : (n : State) → p.node ≡ Some n → Leads hosts i x.clock w (Crash i) (without i net p n)
   ended_leads n up =
-      subst (λ posted. Leads hosts i x.clock w (Crash i) (record (without i net p n) { posted = posted })) (append-nil net.posted)
-      (move_leads moves hosts x.clock net w (Crash i) p (record { node = None; records = p.records }) x [] (lost_in i n.book) is here found (record {
+      subst (Leads hosts i x.clock w (Crash i))
+      (λ j. record {
+        places = put_nth i (record { node = None; records = p.records }) net.places;
+        posted = append-nil net.posted j;
+        accepted = append-nil net.accepted j;
+        happened = net.happened ++ lost_in i n.book;
+      })
+      (move_leads moves hosts x.clock net w (Crash i) p (record { node = None; records = p.records }) x [] [] (lost_in i n.book) is here found (record {
         move = record { node = record x { book = None }; moved = record nothing { lost = lost_of n.book } };
         is = ap (crash_move x) (stands.book ∙ ap (option_map (λ (m : State). m.book)) up);
         stands = record { base = stands.base; book = refl; journal = stands.journal };
         clock = refl;
         posts = refl;
+        accepts = crash_accepts w i ∙ sym (append-nil w.accepted);
         came = loses_as_the_model i n.book;
       }))
 

@@ -1,6 +1,5 @@
 -- What a call of a node does is one event of the model's world.
 use Rattle.std.specs.Prelude.{ℕ, List, [], ◌∷◌, ◌++◌, ◌+◌, ◌-◌, ◌≡◌, ◌<◌, Bool, true, false, Option, Some, None, length, nat_lt, take}
-use Rattle.at_base.specs.declared.epr.Epr.{Epr}
 use Rattle.at_base.specs.declared.event.Arrived.{Arrived}
 use Rattle.at_base.specs.declared.event.Event.TheVariants as events
 use Rattle.at_base.specs.declared.event.Local.{Local}
@@ -10,8 +9,9 @@ use Rattle.at_model.specs.Activities.{Refusal}
 use Rattle.at_model.specs.Book.{Book}
 use Rattle.at_model.specs.Recovery.{last_incarnation, recover}
 use Rattle.at_model.specs.Step.{Plan, plan, refuses}
-use Rattle.at_model.specs.World.{Hosts, Input, Node, Posted, World, WorldEvent, Deliver, Tick, Raw, Turn, Ask, Crash, Up, decoded, new_nodes, nth, receiver_of, world_step}
+use Rattle.at_model.specs.World.{Hosts, Input, Node, Posted, World, WorldEvent, Deliver, Tick, Raw, Turn, Ask, Crash, Up, decoded, new_nodes, nth, place_of, world_step}
 use Rattle.fated_walks.specs.Fated.{AllLeft, AreFirstDue, Fated, IsBeyond, IsPlanned, StartsWith, all_fates, all_posts, fates_of, posts_of}
+use Rattle.model_laws.specs.Order.{IsInOrder}
 use Rattle.node_at.specs.Doings.{AreDoings, Doing, IsDoing, book_behind, came_of}
 use Rattle.node_at.specs.Meanings.{Meaning}
 use Rattle.node_at.specs.Meanings.Meaning.{Refused, Steps}
@@ -20,7 +20,7 @@ use Rattle.node_at.specs.State.{State}
 use Rattle.node_at.specs.Steps.{if_landed}
 use Rattle.node_at.specs.TurnText.{IsFirst, IsStep, Steppings, TurnStep}
 use Rattle.node_worlds.specs.Nets.{IsWorldOf, Net, Place, after, broken, rested, with_start, with_started, without}
-use Rattle.node_worlds.specs.SentPosts.{AreSent, Sent, recorded, records_by}
+use Rattle.node_worlds.specs.SentPosts.{AreSent, Sent, accepted_along, accepted_between, recorded, records_by}
 use Rattle.site_model.specs.Told.{Made}
 use Rattle.world_laws.specs.Fates.{behind_done}
 use Rattle.world_laws.specs.Firsts.{input_plan}
@@ -45,7 +45,7 @@ pub record MovesOne (i now : ℕ) (w v : World) : Type 0 where
   pub this : nth i v.nodes ≡ Some node
   pub clock : node.clock ≡ now
   pub others : (j : ℕ) → (j ≡ i → ⊥) → nth j v.nodes ≡ nth j w.nodes
-  pub reach : (to : Option Epr) → receiver_of v.nodes to ≡ receiver_of w.nodes to
+  pub reach : (address : List ℕ) → place_of 1 v.nodes address ≡ place_of 1 w.nodes address
 
 -- The event leads the world of that net to one of this net, and moves that node alone.
 pub record Leads (hosts : Hosts) (i now : ℕ) (w : World) (e : WorldEvent) (net : Net) : Type 0 where
@@ -58,7 +58,7 @@ pub record IsAt (hosts : Hosts) (net : Net) (w : World) (i : ℕ) (p : Place) (x
   pub place : nth i net.places ≡ Some p
   pub node : nth i w.nodes ≡ Some x
   pub up : p.node ≡ Some n
-  pub reach : (to : Option Epr) → receiver_of w.nodes to ≡ receiver_of (new_nodes hosts.base_of hosts.count 1) to
+  pub reach : (address : List ℕ) → place_of 1 w.nodes address ≡ place_of 1 (new_nodes hosts.base_of hosts.count 1) address
 
 -- These are the model's steps of that input: one for what is heard, and one for each item that is due.
 pub record AreStepsOf (w : World) (i : ℕ) (x : Node) (b : Book) (input : Input) (now : ℕ) (fated : List Fated) : Type 0 where
@@ -77,7 +77,7 @@ pub record IsTurn (hosts : Hosts) (net : Net) (w : World) (i : ℕ) (p : Place) 
   pub fared : AreFared steps doings fated
   pub sent : AreSent steps doings (all_posts fated)
   pub leads : (all : List Bool) (until : Option ℕ) → StartsWith (all_fates fated) all → IsBeyond until (length (all_fates fated))
-      → Leads hosts i now w (Turn i input all until) (after hosts i net p m (recorded steps) (all_posts fated))
+      → Leads hosts i now w (Turn i input all until) (after hosts i net p m (recorded steps) (all_posts fated) (accepted_along hosts i n.book steps))
 
 -- Whatever a node did in a turn that went to its end, its calls done or failed.
 abbrev pub TurnsAreEvents : Type 0
@@ -150,7 +150,8 @@ pub record IsAsk (hosts : Hosts) (net : Net) (w : World) (i : ℕ) (p : Place) (
   pub fared : IsFared step doing fated
   pub sent : Sent step.leaving doing.made (posts_of fated.ways)
   pub leads : (all : List Bool) (until : Option ℕ) → StartsWith (fates_of fated) all → IsBeyond until (length (fates_of fated))
-      → Leads hosts i x.clock w (Ask i l all until) (after hosts i net p m (records_by (if_landed step.landed step.entry)) (posts_of fated.ways))
+      → Leads hosts i x.clock w (Ask i l all until) (after hosts i net p m (records_by (if_landed step.landed step.entry)) (posts_of fated.ways)
+      (accepted_between hosts i n.book m.book))
 
 pub record RequestsAreEvents : Type 0 where
   pub whole : (hosts : Hosts) (net : Net) (w : World) (i : ℕ) (p : Place) (x : Node) (n m : State) (l : Local) (step : TurnStep) (doing : Doing)
@@ -164,9 +165,9 @@ pub record RequestsAreEvents : Type 0 where
   pub halted : (hosts : Hosts) (net : Net) (w : World) (i : ℕ) (p : Place) (x : Node) (n : State) (l : Local) (step : TurnStep) (entry : Record) (stands : Bool)
       → IsAt hosts net w i p x n → IsStep n.book (events.Local l) x.clock step → step.entry ≡ Some entry → step.landed ≡ true
       → Leads hosts i x.clock w (Ask i l (stands ∷ []) (Some 1)) (broken hosts i net p n (front_by stands step) [])
-  -- one that is refused changes nothing
+  -- one that is refused changes nothing, where the node's book is in order
   pub refused : (hosts : Hosts) (net : Net) (w : World) (i : ℕ) (p : Place) (x : Node) (n : State) (l : Local) (why : Refusal) (fates : List Bool) (until : Option ℕ)
-      → IsAt hosts net w i p x n → refuses n.book l ≡ Some why → (until ≡ Some 0 → ⊥) → Leads hosts i x.clock w (Ask i l fates until) (rested i net p n)
+      → IsAt hosts net w i p x n → refuses n.book l ≡ Some why → IsInOrder n.book → (until ≡ Some 0 → ⊥) → Leads hosts i x.clock w (Ask i l fates until) (rested i net p n)
 
 -- A node that starts, or fails to, and one that ends.
 pub record StartsAreEvents : Type 0 where

@@ -21,7 +21,7 @@ use Rattle.outcomes.proofs.Layers.{world_premises}
 use Rattle.outcomes.proofs.SingleEnds.{ends_same}
 use Rattle.site_model.specs.Told.{Told}
 use Rattle.node_worlds.specs.Agreement.{AgreesWherever, NetsAgree}
-use Rattle.node_worlds.specs.Nets.{NetsAreWorlds}
+use Rattle.node_worlds.specs.Nets.{NetsAreWorlds, shown_world}
 
 -- none of what happened at other nodes
 unmet : (n : ℕ) (P : ℕ → Type 0) → (P n → ⊥) → (hs : List Happened) → AllByRecursion (λ (h : Happened). P h.node) hs → happened_on n hs ≡ []
@@ -69,5 +69,5 @@ agrees_wherever hosts w few reached = record {
 
 pub nets_agree : {S : Type 0} (told : S → Told) → NetsAreWorlds told → NetsAgree told
 nets_agree told worlds hosts net few run =
-    let (w, reached, is) = worlds hosts net run in
-    (w, is, agrees_wherever hosts w few reached)
+    let (reached, shown) = worlds hosts net run in
+    record { reached = reached; shown = shown; outcome = agrees_wherever hosts (shown_world hosts net) few reached }

@@ -6,6 +6,7 @@ pub mod KeptRecords
 pub mod Restarts
 pub mod Agreement
 pub mod Rows
+pub mod GrowingNets
 pub mod Acts
 pub mod ActRecords
 pub mod DiskCalls

@@ -1,5 +1,5 @@
 -- One step of a node leads its world on.
-use Rattle.std.specs.Prelude.{ℕ, List, [], ◌∷◌, ◌++◌, ◌⊎◌, Option, Some, None, Bool, true, false, map, ◌≡◌, refl}
+use Rattle.std.specs.Prelude.{ℕ, List, [], ◌∷◌, ◌++◌, ◌⊎◌, Option, Some, None, Bool, true, false, map, ◌+◌, ◌≡◌, refl}
 use Rattle.std.specs.List.{AllByRecursion}
 use Rattle.std.proofs.Common.{inl, inr, sym, subst, ap, ◌∙◌}
 use Rattle.std.proofs.lemmas.List.{append-nil, append_assoc, map-append}
@@ -10,19 +10,21 @@ use Rattle.at_base.specs.declared.outs.Out.TheVariants as outs
 use Rattle.at_base.specs.declared.outs.Post.{Post}
 use Rattle.at_base.specs.declared.record.Record.{Record}
 use Rattle.at_model.specs.Book.{Book}
+use Rattle.at_model.specs.Recovery.{last_incarnation}
 use Rattle.at_model.specs.Step.{plan, step}
-use Rattle.at_model.specs.World.{Node, World, nth, put_nth, with_post, happened_at, Hosts}
+use Rattle.at_model.specs.World.{Accepted, Node, World, lost_in, new_nodes, nth, put_book, put_nth, started, up_after, with_post, happened_at, Hosts}
 use Rattle.model_laws.specs.Agreement.{IsIn}
 use Rattle.model_laws.specs.DrawnIds.{with_entry}
-use Rattle.model_laws.specs.ReachedWorlds.{Heard, counts, post_all, stepped}
-use Rattle.model_laws.proofs.Nodes.{bases_put, put_put, put_same, receiver_same, same_bases}
+use Rattle.model_laws.specs.ReachedWorlds.{Heard, Reached, counts, fell, opened, post_all, rose, stepped, waited}
+use Rattle.model_laws.proofs.Addresses.{HaveBases}
+use Rattle.model_laws.proofs.Nodes.{accepted_same, bases_put, put_put, put_same, receiver_same, same_bases}
 use Rattle.model_laws.proofs.NodeLives.{put_this}
 use Rattle.node_at.specs.Doings.{Doing}
 use Rattle.node_at.specs.Steps.{if_landed}
 use Rattle.node_at.specs.Texts.{AreLeaving, Leaving}
 use Rattle.node_at.specs.Texts.AreLeaving.{leaves, none, stays}
 use Rattle.node_worlds.specs.Leads.{IsUp, Leads, StepsLead, moved, posted_at}
-use Rattle.node_worlds.specs.SentPosts.{AreSome, Sent, also, posts_of, records_by}
+use Rattle.node_worlds.specs.SentPosts.{AreSome, Sent, accepted_between, also, posts_of, records_by}
 
 -- posts, one behind the other
 posts_nodes : (i : ℕ) (ps : List Post) (w : World) → (post_all i ps w).nodes ≡ w.nodes
@@ -32,6 +34,10 @@ posts_nodes i (p ∷ ps) w = posts_nodes i ps (with_post i p w)
 posts_happened : (i : ℕ) (ps : List Post) (w : World) → (post_all i ps w).happened ≡ w.happened
 posts_happened i [] w = refl
 posts_happened i (p ∷ ps) w = posts_happened i ps (with_post i p w)
+
+posts_accepted : (i : ℕ) (ps : List Post) (w : World) → (post_all i ps w).accepted ≡ w.accepted
+posts_accepted i [] w = refl
+posts_accepted i (p ∷ ps) w = posts_accepted i ps (with_post i p w)
 
 posts_posted : (i : ℕ) (ps : List Post) (w : World) → (post_all i ps w).posted ≡ w.posted ++ map (posted_at i w.nodes) ps
 posts_posted i [] w = sym (append-nil w.posted)
@@ -46,6 +52,29 @@ posted_put i x z xs (p ∷ ps) f b = λ j. record {
   content = p;
 } ∷ posted_put i x z xs ps f b j
 
+-- in every world that is reached the nodes have their bases
+pub reached_bases : (hosts : Hosts) (w : World) → Reached hosts w → HaveBases w.nodes (new_nodes hosts.base_of hosts.count 1)
+reached_bases hosts w (opened is) =
+    subst (λ (v : World). HaveBases v.nodes (new_nodes hosts.base_of hosts.count 1)) (sym is) (same_bases (new_nodes hosts.base_of hosts.count 1))
+reached_bases hosts w (stepped u n x b e now landed ps reached found up heard posts is) =
+    subst (λ xs. HaveBases xs (new_nodes hosts.base_of hosts.count 1)) (sym (ap (λ (v : World). v.nodes) is ∙ posts_nodes n ps (counts u n x b e now landed)))
+    (bases_put u.nodes (new_nodes hosts.base_of hosts.count 1) n x (record x {
+      book = Some (step b e now landed).book;
+      journal = with_entry
+          (plan b e now).entry landed x.journal;
+    }) found refl
+    (reached_bases hosts u reached))
+reached_bases hosts w (fell u n x b reached found up is) =
+    subst (λ xs. HaveBases xs (new_nodes hosts.base_of hosts.count 1))
+    (sym (ap (λ (v : World). v.nodes) (is ∙ ap (put_book n None (record u { happened = u.happened ++ lost_in n b })) found)))
+    (bases_put u.nodes (new_nodes hosts.base_of hosts.count 1) n x (record x { book = None }) found refl (reached_bases hosts u reached))
+reached_bases hosts w (rose u n x stop reached found down small is) =
+    subst (λ (v : World). HaveBases v.nodes (new_nodes hosts.base_of hosts.count 1)) (sym is)
+    (bases_put u.nodes (new_nodes hosts.base_of hosts.count 1) n x (up_after (started (last_incarnation x.journal + 1) x) stop) found refl (reached_bases hosts u reached))
+reached_bases hosts w (waited u n x clock reached found is) =
+    subst (λ (v : World). HaveBases v.nodes (new_nodes hosts.base_of hosts.count 1)) (sym is)
+    (bases_put u.nodes (new_nodes hosts.base_of hosts.count 1) n x (record x { clock = clock }) found refl (reached_bases hosts u reached))
+
 -- the journal with a step's record
 entry_is : (o : Option Record) (landed : Bool) (rs : List Record) → with_entry o landed rs ≡ rs ++ records_by (if_landed landed o)
 entry_is None true rs = sym (append-nil rs)
@@ -56,12 +85,15 @@ entry_is (Some r) false rs = sym (append-nil rs)
 one_leads : (hosts : Hosts) (i : ℕ) (u : World) (x : Node) (b : Book) (e : Event) (now : ℕ) (landed : Bool) (ps : List Post) → IsUp hosts i u x b → Heard u i x e
     → AllByRecursion (λ p. IsIn (outs.Post p) (step b e now landed).outs) ps
     → Leads hosts i u x (step b e now landed).book (records_by (if_landed landed (plan b e now).entry)) ps (step b e now landed).effects
+    (accepted_between hosts i b (step b e now landed).book)
 one_leads hosts i u x b e now landed ps up heard those = record {
   world = post_all i ps counted;
   reached = stepped u i x b e now landed ps up.reached up.found up.up heard those refl;
   nodes = posts_nodes i ps counted ∙ ap (λ rs. put_nth i (record x { book = Some (step b e now landed).book; journal = rs }) u.nodes) (entry_is (plan b e now).entry landed x.journal);
   posted = posts_posted i ps counted ∙ ap (λ qs. u.posted ++ qs) (posted_put i x node u.nodes ps up.found refl);
   happened = posts_happened i ps counted;
+  accepted = posts_accepted i ps counted
+      ∙ ap (λ js. u.accepted ++ js) (accepted_same i u.nodes (new_nodes hosts.base_of hosts.count 1) b (step b e now landed).book.transactions (reached_bases hosts u up.reached));
 }
   where
     counted : World
@@ -71,26 +103,28 @@ one_leads hosts i u x b e now landed ps up heard those = record {
     node = record x { book = Some (step b e now landed).book; journal = with_entry (plan b e now).entry landed x.journal }
 
 -- none, and one behind the other
-pub leads_none : (hosts : Hosts) (i : ℕ) (u : World) (x : Node) (b : Book) → IsUp hosts i u x b → Leads hosts i u x b [] [] []
+pub leads_none : (hosts : Hosts) (i : ℕ) (u : World) (x : Node) (b : Book) → IsUp hosts i u x b → Leads hosts i u x b [] [] [] []
 leads_none hosts i u x b up = record {
   world = u;
   reached = up.reached;
   nodes = sym (put_same i x u.nodes up.found) ∙ (λ j. put_nth i (record x { book = up.up j; journal = sym (append-nil x.journal) j }) u.nodes);
   posted = sym (append-nil u.posted);
   happened = sym (append-nil u.happened);
+  accepted = sym (append-nil u.accepted);
 }
 
-pub then_up : (hosts : Hosts) (i : ℕ) (u : World) (x : Node) (b c : Book) (rs : List Record) (ps : List Post) (es : List Effect) → IsUp hosts i u x b → (l : Leads hosts i u x c rs ps es)
-    → IsUp hosts i l.world (moved x c rs) c
-then_up hosts i u x b c rs ps es up l = record {
+pub then_up : (hosts : Hosts) (i : ℕ) (u : World) (x : Node) (b c : Book) (rs : List Record) (ps : List Post) (es : List Effect) (js : List Accepted) → IsUp hosts i u x b
+    → (l : Leads hosts i u x c rs ps es js) → IsUp hosts i l.world (moved x c rs) c
+then_up hosts i u x b c rs ps es js up l = record {
   reached = l.reached;
   found = ap (nth i) l.nodes ∙ put_this u.nodes i x (moved x c rs) up.found;
   up = refl;
 }
 
-pub leads_then : (hosts : Hosts) (i : ℕ) (u : World) (x : Node) (b c d : Book) (rs qs : List Record) (ps os : List Post) (es fs : List Effect) → IsUp hosts i u x b → (l : Leads hosts i u x c rs ps es)
-    → Leads hosts i l.world (moved x c rs) d qs os fs → Leads hosts i u x d (rs ++ qs) (ps ++ os) (es ++ fs)
-leads_then hosts i u x b c d rs qs ps os es fs up l k = record {
+pub leads_then : (hosts : Hosts) (i : ℕ) (u : World) (x : Node) (b c d : Book) (rs qs : List Record) (ps os : List Post) (es fs : List Effect)
+    (js ks : List Accepted) → IsUp hosts i u x b
+    → (l : Leads hosts i u x c rs ps es js) → Leads hosts i l.world (moved x c rs) d qs os fs ks → Leads hosts i u x d (rs ++ qs) (ps ++ os) (es ++ fs) (js ++ ks)
+leads_then hosts i u x b c d rs qs ps os es fs js ks up l k = record {
   world = k.world;
   reached = k.reached;
   nodes = k.nodes ∙ ap (put_nth i (moved (moved x c rs) d qs)) l.nodes ∙ put_put i (moved x c rs) (moved (moved x c rs) d qs) u.nodes
@@ -99,19 +133,22 @@ leads_then hosts i u x b c d rs qs ps os es fs up l k = record {
       ∙ ap (λ ts. u.posted ++ ts) (sym (map-append (posted_at i u.nodes) ps os));
   happened = k.happened ∙ ap (λ ts. ts ++ map (happened_at i) fs) l.happened ∙ append_assoc u.happened (map (happened_at i) es) (map (happened_at i) fs)
       ∙ ap (λ ts. u.happened ++ ts) (sym (map-append (happened_at i) es fs));
+  accepted = k.accepted ∙ ap (λ ts. ts ++ ks) l.accepted ∙ append_assoc u.accepted js ks;
 }
   where
     sent : map (posted_at i l.world.nodes) os ≡ map (posted_at i u.nodes) os
     sent = ap (λ xs. map (posted_at i xs) os) l.nodes ∙ posted_put i x (moved x c rs) u.nodes os up.found refl
 
-pub leads_as : (hosts : Hosts) (i : ℕ) (u : World) (x : Node) (b c : Book) (rs qs : List Record) (ps os : List Post) (es fs : List Effect) → b ≡ c → rs ≡ qs → ps ≡ os → es ≡ fs
-    → Leads hosts i u x b rs ps es → Leads hosts i u x c qs os fs
-leads_as hosts i u x b c rs qs ps os es fs e f g h l = record {
+pub leads_as : (hosts : Hosts) (i : ℕ) (u : World) (x : Node) (b c : Book) (rs qs : List Record) (ps os : List Post) (es fs : List Effect) (js ks : List Accepted)
+    → b ≡ c → rs ≡ qs → ps ≡ os
+    → es ≡ fs → js ≡ ks → Leads hosts i u x b rs ps es js → Leads hosts i u x c qs os fs ks
+leads_as hosts i u x b c rs qs ps os es fs js ks e f g h k l = record {
   world = l.world;
   reached = l.reached;
   nodes = l.nodes ∙ (λ j. put_nth i (moved x (e j) (f j)) u.nodes);
   posted = l.posted ∙ ap (λ ts. u.posted ++ map (posted_at i u.nodes) ts) g;
   happened = l.happened ∙ ap (λ ts. u.happened ++ map (happened_at i) ts) h;
+  accepted = l.accepted ∙ ap (λ ts. u.accepted ++ ts) k;
 }
 
 -- what was sent is among the outs
@@ -166,5 +203,6 @@ sent_in os xs d ps are s =
 pub steps_lead : StepsLead
 steps_lead hosts i u x b e now s d ps up heard is sent =
     leads_as hosts i u x (step b e now s.landed).book s.behind (records_by (if_landed s.landed (plan b e now).entry)) (records_by (if_landed s.landed s.entry)) ps ps
-    (step b e now s.landed).effects s.came (sym is.outcome.behind) (ap (λ o. records_by (if_landed s.landed o)) (sym is.entry)) refl (sym is.outcome.came)
+    (step b e now s.landed).effects s.came (accepted_between hosts i b (step b e now s.landed).book) (accepted_between hosts i b s.behind) (sym is.outcome.behind)
+    (ap (λ o. records_by (if_landed s.landed o)) (sym is.entry)) refl (sym is.outcome.came) (ap (accepted_between hosts i b) (sym is.outcome.behind))
     (one_leads hosts i u x b e now s.landed ps up heard (sent_in (step b e now s.landed).outs s.leaving d ps is.outcome.leaving sent))

@@ -7,8 +7,12 @@ use Rattle.at_base.specs.declared.event.Item.{Item}
 use Rattle.at_base.specs.declared.outs.Post.{Post}
 use Rattle.at_model.specs.Book.{Book}
 use Rattle.at_model.specs.Step.{Outcome, is_due, items_of, step}
-use Rattle.at_model.specs.World.{Node, World, Hosts}
+use Rattle.at_model.specs.World.{Node, World, Hosts, new_nodes}
 use Rattle.interposition.specs.Due.{WalksTheDue, due_outcome, due_outcomes}
+use Rattle.model_laws.specs.Order.{IsInOrder}
+use Rattle.model_laws.proofs.DecisionLaws.{IfThere}
+use Rattle.model_laws.proofs.ReachedWorlds.{in_order}
+use Rattle.model_laws.proofs.StepRegistrations.{none_new}
 use Rattle.node_at.specs.Doings.{Doing, book_behind, came_of}
 use Rattle.node_at.specs.Meanings.{Meaning}
 use Rattle.node_at.specs.Meanings.Meaning.{Refused, Steps, Lost, Unread}
@@ -17,7 +21,7 @@ use Rattle.node_at.specs.Steps.{if_landed}
 use Rattle.node_at.specs.TurnText.{AreDue, DueSteps, IsFirst, IsOutcome, IsStep, Steppings, TurnStep, answered, refusing}
 use Rattle.node_at.specs.TurnText.Steppings.{asked, unasked}
 use Rattle.node_worlds.specs.Leads.{IsHeard, IsUp, Leads, TurnsLead, moved}
-use Rattle.node_worlds.specs.SentPosts.{AreSent, AreSome, Sent, posts_of, recorded, records_by}
+use Rattle.node_worlds.specs.SentPosts.{AreSent, AreSome, Sent, accepted_along, accepted_between, posts_of, recorded, records_by}
 use Rattle.node_worlds.proofs.StepLeads.{leads_as, leads_none, leads_then, steps_lead, then_up}
 
 -- lists of one more
@@ -42,24 +46,26 @@ no_more o os e = absurd cc
 
 -- one step, and then a row of them
 row_leads : (hosts : Hosts) (i : ℕ) (u : World) (x : Node) (b : Book) (s : TurnStep) (ss : List TurnStep) (qs rs ps : List Post) → IsUp hosts i u x b
-    → (l : Leads hosts i u x s.behind (records_by (if_landed s.landed s.entry)) qs s.came)
-    → Leads hosts i l.world (moved x s.behind (records_by (if_landed s.landed s.entry))) (book_behind s.behind ss) (recorded ss) rs (came_of ss)
-    → ps ≡ qs ++ rs → Leads hosts i u x (book_behind b (s ∷ ss)) (recorded (s ∷ ss)) ps (came_of (s ∷ ss))
+    → (l : Leads hosts i u x s.behind (records_by (if_landed s.landed s.entry)) qs s.came (accepted_between hosts i b s.behind))
+    → Leads hosts i l.world (moved x s.behind (records_by (if_landed s.landed s.entry))) (book_behind s.behind ss) (recorded ss) rs (came_of ss) (accepted_along hosts i s.behind ss)
+    → ps ≡ qs ++ rs → Leads hosts i u x (book_behind b (s ∷ ss)) (recorded (s ∷ ss)) ps (came_of (s ∷ ss)) (accepted_along hosts i b (s ∷ ss))
 row_leads hosts i u x b s ss qs rs ps up l k e =
-    leads_as hosts i u x (book_behind s.behind ss) (book_behind s.behind ss) (recorded (s ∷ ss)) (recorded (s ∷ ss)) (qs ++ rs) ps (came_of (s ∷ ss)) (came_of (s ∷ ss)) refl refl (sym e) refl
-    (leads_then hosts i u x b s.behind (book_behind s.behind ss) (records_by (if_landed s.landed s.entry)) (recorded ss) qs rs s.came (came_of ss) up l k)
+    leads_as hosts i u x (book_behind s.behind ss) (book_behind s.behind ss) (recorded (s ∷ ss)) (recorded (s ∷ ss)) (qs ++ rs) ps (came_of (s ∷ ss)) (came_of (s ∷ ss))
+    (accepted_along hosts i b (s ∷ ss)) (accepted_along hosts i b (s ∷ ss)) refl refl (sym e) refl refl
+    (leads_then hosts i u x b s.behind (book_behind s.behind ss) (records_by (if_landed s.landed s.entry)) (recorded ss) qs rs s.came (came_of ss) (accepted_between hosts i b s.behind)
+    (accepted_along hosts i s.behind ss) up l k)
 
 -- no step
 pub none_lead : (hosts : Hosts) (i : ℕ) (u : World) (x : Node) (b : Book) (ds : List Doing) (ps : List Post) → IsUp hosts i u x b → AreSent [] ds ps
-    → Leads hosts i u x (book_behind b []) (recorded []) ps (came_of [])
-none_lead hosts i u x b [] ps up e = leads_as hosts i u x b b [] [] [] ps [] [] refl refl (sym e) refl (leads_none hosts i u x b up)
+    → Leads hosts i u x (book_behind b []) (recorded []) ps (came_of []) (accepted_along hosts i b [])
+none_lead hosts i u x b [] ps up e = leads_as hosts i u x b b [] [] [] ps [] [] [] [] refl refl (sym e) refl refl (leads_none hosts i u x b up)
 none_lead hosts i u x b (d ∷ ds) ps up e = absurd e
 
 -- the items that are due
 abbrev DueLead : Hosts → ℕ → ℕ → List Item → Type 0
 DueLead hosts i now items =
     (u : World) (x : Node) (b : Book) (done left : List Outcome) (ss : List TurnStep) (ds : List Doing) (ps : List Post) → IsUp hosts i u x b → AreDue done ss
-    → done ++ left ≡ due_outcomes now items b → AreSent ss ds ps → Leads hosts i u x (book_behind b ss) (recorded ss) ps (came_of ss)
+    → done ++ left ≡ due_outcomes now items b → AreSent ss ds ps → Leads hosts i u x (book_behind b ss) (recorded ss) ps (came_of ss) (accepted_along hosts i b ss)
 
 module _ (law : WalksTheDue) (hosts : Hosts) (i now : ℕ) where
   due_is : (b : Book) (item : Item) (o : Outcome) (s : TurnStep) → o ≡ due_outcome b now item → s.entry ≡ None → s.landed ≡ true → IsOutcome o s → IsStep b (events.Due item) now s
@@ -71,7 +77,7 @@ module _ (law : WalksTheDue) (hosts : Hosts) (i now : ℕ) where
   due_leads : (item : Item) (rest : List Item) → DueLead hosts i now rest → (t : Bool) (u : World) (x : Node) (b : Book) (done left : List Outcome) (ss : List TurnStep) (ds : List Doing) (ps : List Post)
       → IsUp hosts i u x b → AreDue done ss
       → done ++ left ≡ (if t then due_outcome b now item ∷ due_outcomes now rest (due_outcome b now item).book else due_outcomes now rest b) → AreSent ss ds ps
-      → Leads hosts i u x (book_behind b ss) (recorded ss) ps (came_of ss)
+      → Leads hosts i u x (book_behind b ss) (recorded ss) ps (came_of ss) (accepted_along hosts i b ss)
   due_leads item rest again false u x b done left ss ds ps up are all sent = again u x b done left ss ds ps up are all sent
   due_leads item rest again true u x b [] left [] ds ps up are all sent = none_lead hosts i u x b ds ps up sent
   due_leads item rest again true u x b [] left (s ∷ ss) ds ps up are all sent = absurd are
@@ -83,7 +89,7 @@ module _ (law : WalksTheDue) (hosts : Hosts) (i now : ℕ) where
       let behind : (due_outcome b now item).book ≡ s.behind = ap (λ (z : Outcome). z.book) (sym first) ∙ sym is.behind in
       row_leads hosts i u x b s ss qs rs ps up l
       (again l.world (moved x s.behind (records_by (if_landed s.landed s.entry))) s.behind done left ss ds rs
-      (then_up hosts i u x b s.behind (records_by (if_landed s.landed s.entry)) qs s.came up l) more
+      (then_up hosts i u x b s.behind (records_by (if_landed s.landed s.entry)) qs s.came (accepted_between hosts i b s.behind) up l) more
       (same_rest o (due_outcome b now item) (done ++ left) (due_outcomes now rest (due_outcome b now item).book) all ∙ ap (due_outcomes now rest) behind) others)
       e
 
@@ -94,7 +100,7 @@ module _ (law : WalksTheDue) (hosts : Hosts) (i now : ℕ) where
   dues_lead (item ∷ rest) u x b done left ss ds ps up are all sent = due_leads item rest (dues_lead rest) (is_due b now item) u x b done left ss ds ps up are all sent
 
   due_steps_lead : (u : World) (x : Node) (b : Book) (left : List Outcome) (ss : List TurnStep) (ds : List Doing) (ps : List Post) → IsUp hosts i u x b → DueSteps now b left ss
-      → AreSent ss ds ps → Leads hosts i u x (book_behind b ss) (recorded ss) ps (came_of ss)
+      → AreSent ss ds ps → Leads hosts i u x (book_behind b ss) (recorded ss) ps (came_of ss) (accepted_along hosts i b ss)
   due_steps_lead u x b left ss ds ps up due sent = dues_lead (items_of b) u x b due.done left ss ds ps up due.are due.all sent
 
 -- of a row of them the first
@@ -118,15 +124,16 @@ none_posted status text (y ∷ (z ∷ ys)) (inl (e, h)) = absurd h
 none_posted status text (y ∷ ys) (inr h) = absurd h
 
 pub refused_leads : (hosts : Hosts) (i : ℕ) (u : World) (x : Node) (b : Book) (status : ℕ) (text : Option (List ℕ)) (d : Doing) (ps : List Post) → IsUp hosts i u x b
-    → Sent (refusing b status text).leaving d.made ps → Leads hosts i u x b [] ps []
+    → Sent (refusing b status text).leaving d.made ps → Leads hosts i u x b [] ps [] (accepted_between hosts i b b)
 refused_leads hosts i u x b status text d ps up sent =
-    leads_as hosts i u x b b [] [] [] ps [] [] refl refl (sym (sent.posts ∙ none_posted status text sent.went sent.some)) refl (leads_none hosts i u x b up)
+    leads_as hosts i u x b b [] [] [] ps [] [] [] (accepted_between hosts i b b) refl refl (sym (sent.posts ∙ none_posted status text sent.went sent.some)) refl
+    (sym (none_new (new_nodes hosts.base_of hosts.count 1) b (subst (IfThere IsInOrder) up.up (in_order hosts u up.reached i x up.found)) i)) (leads_none hosts i u x b up)
 
 -- the step of the request
 first_leads : (hosts : Hosts) (i : ℕ) (u : World) (x : Node) (b : Book) (now status : ℕ) (meaning : Meaning) (s : TurnStep) (d : Doing) (ps : List Post) → IsUp hosts i u x b → IsHeard u i x meaning
-    → IsFirst b now meaning s status → Sent s.leaving d.made ps → Leads hosts i u x s.behind (records_by (if_landed s.landed s.entry)) ps s.came
+    → IsFirst b now meaning s status → Sent s.leaving d.made ps → Leads hosts i u x s.behind (records_by (if_landed s.landed s.entry)) ps s.came (accepted_between hosts i b s.behind)
 first_leads hosts i u x b now status (Refused st text) s d ps up heard (e, f) sent =
-    subst (λ (z : TurnStep). Leads hosts i u x z.behind (records_by (if_landed z.landed z.entry)) ps z.came) (sym e)
+    subst (λ (z : TurnStep). Leads hosts i u x z.behind (records_by (if_landed z.landed z.entry)) ps z.came (accepted_between hosts i b z.behind)) (sym e)
     (refused_leads hosts i u x b st text d ps up (subst (λ (z : TurnStep). Sent z.leaving d.made ps) e sent))
 first_leads hosts i u x b now status (Steps e) s d ps up heard (is, f) sent = steps_lead hosts i u x b e now s d ps up (heard e refl) is sent
 first_leads hosts i u x b now status Lost s d ps up heard is sent = absurd is
@@ -135,25 +142,25 @@ first_leads hosts i u x b now status Unread s d ps up heard is sent = absurd is
 module _ (law : WalksTheDue) (hosts : Hosts) (i now : ℕ) (u : World) (x : Node) (b : Book) (up : IsUp hosts i u x b) where
   asked_lead : (left : List Outcome) (meaning : Meaning) (status : ℕ) (first : TurnStep) (rest : List TurnStep) (ds : List Doing) (ps : List Post) → IsHeard u i x meaning
       → IsFirst b now meaning first status → DueSteps now first.behind left rest → AreSent (first ∷ rest) ds ps
-      → Leads hosts i u x (book_behind b (first ∷ rest)) (recorded (first ∷ rest)) ps (came_of (first ∷ rest))
+      → Leads hosts i u x (book_behind b (first ∷ rest)) (recorded (first ∷ rest)) ps (came_of (first ∷ rest)) (accepted_along hosts i b (first ∷ rest))
   asked_lead left meaning status first rest [] ps heard is due sent = absurd sent
   asked_lead left meaning status first rest (d ∷ ds) ps heard is due (qs, rs, one, others, e) =
       let l = first_leads hosts i u x b now status meaning first d qs up heard is one in
       row_leads hosts i u x b first rest qs rs ps up l
       (due_steps_lead law hosts i now l.world (moved x first.behind (records_by (if_landed first.landed first.entry))) first.behind left rest ds rs
-      (then_up hosts i u x b first.behind (records_by (if_landed first.landed first.entry)) qs first.came up l) due others)
+      (then_up hosts i u x b first.behind (records_by (if_landed first.landed first.entry)) qs first.came (accepted_between hosts i b first.behind) up l) due others)
       e
 
   steppings_lead : (left : List Outcome) (meaning : Meaning) (steps : List TurnStep) (status : ℕ) → Steppings now b left meaning steps status → (ds : List Doing) (ps : List Post)
-      → IsHeard u i x meaning → AreSent steps ds ps → Leads hosts i u x (book_behind b steps) (recorded steps) ps (came_of steps)
+      → IsHeard u i x meaning → AreSent steps ds ps → Leads hosts i u x (book_behind b steps) (recorded steps) ps (came_of steps) (accepted_along hosts i b steps)
   steppings_lead left meaning steps status (unasked due) ds ps heard sent = due_steps_lead law hosts i now u x b left steps ds ps up due sent
   steppings_lead left meaning steps status (asked first rest is due e) ds ps heard sent =
-      subst (λ ss. Leads hosts i u x (book_behind b ss) (recorded ss) ps (came_of ss)) (sym e)
+      subst (λ ss. Leads hosts i u x (book_behind b ss) (recorded ss) ps (came_of ss) (accepted_along hosts i b ss)) (sym e)
       (asked_lead left meaning status first rest ds ps heard is due (subst (λ ss. AreSent ss ds ps) e sent))
 
   asked_front : (left : List Outcome) (meaning : Meaning) (status : ℕ) (first : TurnStep) (more front rest : List TurnStep) (ds : List Doing) (ps : List Post) → IsHeard u i x meaning
       → IsFirst b now meaning first status → DueSteps now first.behind left more → first ∷ more ≡ front ++ rest → AreSent front ds ps
-      → Leads hosts i u x (book_behind b front) (recorded front) ps (came_of front)
+      → Leads hosts i u x (book_behind b front) (recorded front) ps (came_of front) (accepted_along hosts i b front)
   asked_front left meaning status first more [] rest ds ps heard is due e sent = none_lead hosts i u x b ds ps up sent
   asked_front left meaning status first more (f ∷ fs) rest ds ps heard is due e sent =
       let same : first ≡ f = same_first first f more (fs ++ rest) e in
@@ -163,7 +170,8 @@ module _ (law : WalksTheDue) (hosts : Hosts) (i now : ℕ) (u : World) (x : Node
 
   -- the first of them
   pub front_leads : (left : List Outcome) (meaning : Meaning) (steps : List TurnStep) (status : ℕ) → Steppings now b left meaning steps status → (front rest : List TurnStep) (ds : List Doing)
-      (ps : List Post) → IsHeard u i x meaning → steps ≡ front ++ rest → AreSent front ds ps → Leads hosts i u x (book_behind b front) (recorded front) ps (came_of front)
+      (ps : List Post) → IsHeard u i x meaning → steps ≡ front ++ rest → AreSent front ds ps → Leads hosts i u x (book_behind b front) (recorded front) ps
+      (came_of front) (accepted_along hosts i b front)
   front_leads left meaning steps status (unasked due) front rest ds ps heard e sent =
       let (others, part) = due_part now b left front rest (subst (DueSteps now b left) e due) in
       due_steps_lead law hosts i now u x b others front ds ps up part sent
@@ -171,15 +179,17 @@ module _ (law : WalksTheDue) (hosts : Hosts) (i now : ℕ) (u : World) (x : Node
       asked_front left meaning status first more front rest ds ps heard is due (sym k ∙ e) sent
 
 pub empty_leads : (hosts : Hosts) (i : ℕ) (u : World) (x : Node) (b : Book) (front rest : List TurnStep) (ds : List Doing) (ps : List Post) → IsUp hosts i u x b → [] ≡ front ++ rest → AreSent front ds ps
-    → Leads hosts i u x (book_behind b front) (recorded front) ps (came_of front)
+    → Leads hosts i u x (book_behind b front) (recorded front) ps (came_of front) (accepted_along hosts i b front)
 empty_leads hosts i u x b [] rest ds ps up e sent = none_lead hosts i u x b ds ps up sent
 empty_leads hosts i u x b (f ∷ fs) rest ds ps up e sent = absurd (no_more f (fs ++ rest) (sym e))
 
-pub one_row : (hosts : Hosts) (i : ℕ) (u : World) (x : Node) (b : Book) (s : TurnStep) (ps : List Post) → IsUp hosts i u x b → Leads hosts i u x s.behind (records_by (if_landed s.landed s.entry)) ps s.came
-    → Leads hosts i u x (book_behind b (s ∷ [])) (recorded (s ∷ [])) ps (came_of (s ∷ []))
+pub one_row : (hosts : Hosts) (i : ℕ) (u : World) (x : Node) (b : Book) (s : TurnStep) (ps : List Post) → IsUp hosts i u x b
+    → Leads hosts i u x s.behind (records_by (if_landed s.landed s.entry)) ps s.came (accepted_between hosts i b s.behind)
+    → Leads hosts i u x (book_behind b (s ∷ [])) (recorded (s ∷ [])) ps (came_of (s ∷ [])) (accepted_along hosts i b (s ∷ []))
 one_row hosts i u x b s ps up l =
     row_leads hosts i u x b s [] ps [] ps up l
-    (leads_none hosts i l.world (moved x s.behind (records_by (if_landed s.landed s.entry))) s.behind (then_up hosts i u x b s.behind (records_by (if_landed s.landed s.entry)) ps s.came up l))
+    (leads_none hosts i l.world (moved x s.behind (records_by (if_landed s.landed s.entry))) s.behind
+    (then_up hosts i u x b s.behind (records_by (if_landed s.landed s.entry)) ps s.came (accepted_between hosts i b s.behind) up l))
     (sym (append-nil ps))
 
 pub turns_lead : WalksTheDue → TurnsLead

@@ -2,6 +2,7 @@ pub mod SentPosts
 pub mod Leads
 pub mod Nets
 pub mod KeptRecords
+pub mod GrowingNets
 pub mod Agreement
 pub mod Restarts
 pub mod Acts

@@ -7,7 +7,7 @@ use Rattle.at_base.specs.declared.event.Local.{Local}
 use Rattle.at_base.specs.declared.outs.Post.{Post}
 use Rattle.at_model.specs.Recovery.{last_incarnation}
 use Rattle.at_model.specs.Step.{plan}
-use Rattle.at_model.specs.World.{World, nth, Hosts, HaveOwnAddresses}
+use Rattle.at_model.specs.World.{nth, Hosts, HaveOwnAddresses}
 use Rattle.site_model.specs.Told.{Told, Files, Is, Made, Between, Within}
 use Rattle.node_at.specs.Doings.{Doing}
 use Rattle.node_at.specs.Endings.{TakesTurn}
@@ -24,10 +24,10 @@ use Rattle.node_at.specs.declared.role.Role.{Role}
 use Rattle.node_at.specs.declared.shrink.Shrunk.{Shrunk}
 use Rattle.node_at.specs.declared.turn.Turned.{Turned}
 use Rattle.node_at.specs.declared.turn.Turned.TheVariants as turneds
-use Rattle.node_worlds.specs.Agreement.{IsOneOutcome}
-use Rattle.node_worlds.specs.Nets.{Brings, IsOpened, IsWorldOf, Net, Place, Runs, after, begun_in, broken, doings_in, new_net, rested, steps_in, with_start, with_started, without}
+use Rattle.node_worlds.specs.Agreement.{IsAgreedNet}
+use Rattle.node_worlds.specs.Nets.{Brings, IsOpened, Net, Place, Runs, after, begun_in, broken, doings_in, new_net, rested, steps_in, with_start, with_started, without}
 use Rattle.node_worlds.specs.Restarts.{StandsFor}
-use Rattle.node_worlds.specs.SentPosts.{AreSent, Sent, recorded, records_by}
+use Rattle.node_worlds.specs.SentPosts.{AreSent, Sent, accepted_along, accepted_between, recorded, records_by}
 
 -- a machine that comes up on these files: reads give them, and a crash leaves them
 pub record IsOn (c : Files) (s : Told) : Type 0 where
@@ -81,11 +81,16 @@ pub data RunsOn {S : Type 0} (told : S → Told) (hosts : Hosts) : Net → (ℕ 
       → nth i u.places ≡ Some p → p.node ≡ Some n → (turn : TakesTurn told result role shrunk n m (ls i) t) → (result ≡ turneds.Halted → ⊥)
       → (IsOpened turn.first → Brings hosts u i role (told (ls i)))
       → AreSent (steps_in turn.first role n turn.node (told (ls i)) (told turn.behind) turn.steps) (doings_in turn.first role n turn.node (told (ls i)) (told turn.behind) turn.steps) ps
-      → Goes i t ls ms → w ≡ after hosts i u p m (recorded (steps_in turn.first role n turn.node (told (ls i)) (told turn.behind) turn.steps)) ps → RunsOn told hosts w ms
+      → Goes i t ls ms
+      → w ≡ after hosts i u p m (recorded (steps_in turn.first role n turn.node (told (ls i)) (told turn.behind) turn.steps)) ps
+      (accepted_along hosts i n.book (steps_in turn.first role n turn.node (told (ls i)) (told turn.behind) turn.steps))
+      → RunsOn told hosts w ms
   -- it does what its program requests
   asked : {w : Net} {ms : ℕ → S} (u : Net) (ls : ℕ → S) (i : ℕ) (p : Place) (n m : State) (id : Numbers) (l : Local) (t : S) (ps : List Post) → RunsOn told hosts u ls
       → nth i u.places ≡ Some p → p.node ≡ Some n → (done : Asked (answers.Done id) n m l (told (ls i)) (told t)) → Sent done.3.3.leaving done.3.3.went.made ps
-      → Goes i t ls ms → w ≡ after hosts i u p m (records_by (if_landed done.3.3.landed (plan n.book (events.Local l) done.3.0).entry)) ps → RunsOn told hosts w ms
+      → Goes i t ls ms
+      → w ≡ after hosts i u p m (records_by (if_landed done.3.3.landed (plan n.book (events.Local l) done.3.0).entry)) ps (accepted_between hosts i n.book m.book)
+      → RunsOn told hosts w ms
   -- A turn is cut off, or it halts: the first of its steps were done, as the files say that the crash left, and some of what they post
   -- was sent.
   cut_off : {w : Net} {ms : ℕ → S} (u : Net) (ls : ℕ → S) (i : ℕ) (p : Place) (n m : State) (result : Turned) (role : Role) (shrunk : Shrunk) (t s : S) (l : List Made) (c : Files)
@@ -115,4 +120,4 @@ RunsOnMachines {S} told = (hosts : Hosts) (net : Net) (ms : ℕ → S) → RunsO
 
 -- and so they agree
 abbrev pub MachinesAgree : {S : Type 0} → (S → Told) → Type 0
-MachinesAgree {S} told = (hosts : Hosts) (net : Net) (ms : ℕ → S) → HaveOwnAddresses hosts → RunsOn told hosts net ms → (w : World) × IsWorldOf hosts net w × IsOneOutcome w
+MachinesAgree {S} told = (hosts : Hosts) (net : Net) (ms : ℕ → S) → HaveOwnAddresses hosts → RunsOn told hosts net ms → IsAgreedNet hosts net

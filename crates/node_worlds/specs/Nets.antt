@@ -1,5 +1,5 @@
 -- Nets of nodes that serve and post to one another, and the worlds that they are.
-use Rattle.std.specs.Prelude.{ℕ, List, [], ◌∷◌, ◌++◌, ◌≡◌, ◌<◌, Option, Some, None, map, option_map, zero, suc}
+use Rattle.std.specs.Prelude.{ℕ, List, [], ◌∷◌, ◌++◌, ◌+◌, ◌≡◌, ◌<◌, Option, Some, None, map, option_map, zero, suc}
 use Rattle.std.proofs.Common.{inl, inr}
 use Rattle.at_base.specs.Numbers.{Numbers}
 use Rattle.at_base.specs.declared.event.Arrived.{Arrived}
@@ -9,7 +9,7 @@ use Rattle.at_base.specs.declared.outs.Post.{Post}
 use Rattle.at_base.specs.declared.record.Record.{Record}
 use Rattle.at_model.specs.Recovery.{last_incarnation}
 use Rattle.at_model.specs.Step.{plan}
-use Rattle.at_model.specs.World.{Happened, Node, Posted, World, decoded, happened_at, lost_in, new_nodes, nth, put_nth, Hosts}
+use Rattle.at_model.specs.World.{Accepted, Happened, Node, Posted, World, decoded, happened_at, lost_in, new_nodes, nth, put_nth, Hosts}
 use Rattle.model_laws.specs.Agreement.{IsIn}
 use Rattle.model_laws.specs.ReachedWorlds.{Reached}
 use Rattle.site_model.specs.Told.{Told}
@@ -31,17 +31,19 @@ use Rattle.node_at.specs.declared.shrink.Shrunk.{Shrunk}
 use Rattle.node_at.specs.declared.turn.Turned.{Turned}
 use Rattle.node_at.specs.declared.turn.Turned.TheVariants as turneds
 use Rattle.node_worlds.specs.Leads.{posted_at}
-use Rattle.node_worlds.specs.SentPosts.{AreSent, Sent, recorded, records_by}
+use Rattle.node_worlds.specs.SentPosts.{AreSent, Sent, accepted_along, accepted_between, recorded, records_by}
 
 -- The place of a node: the node, where one runs there, and the records that its journal was told to hold, in order.
 pub record Place : Type 0 where
   pub node : Option State
   pub records : List Record
 
--- Several places, numbered from 1, the messages that their nodes posted, and the effects of their calls with what crashes took.
+-- Several places, numbered from 1, the messages that their nodes posted, the registrations that their steps accepted, and the effects of
+-- their calls with what crashes took.
 pub record Net : Type 0 where
   pub places : List Place
   pub posted : List Posted
+  pub accepted : List Accepted
   pub happened : List Happened
 
 abbrev pub new_place : Place
@@ -53,7 +55,7 @@ new_places (suc k) = new_place ∷ new_places k
 
 -- no node has started, and no journal has a record
 abbrev pub new_net : Hosts → Net
-new_net hosts = record { places = new_places hosts.count; posted = []; happened = [] }
+new_net hosts = record { places = new_places hosts.count; posted = []; accepted = []; happened = [] }
 
 -- a message that some node posted to this one, as it is decoded there
 abbrev pub IsPostedTo : Hosts → Net → ℕ → Arrived → Type 0
@@ -105,11 +107,12 @@ begun_in turneds.LinkDown role n m old new t = []
 abbrev pub posts_from : Hosts → ℕ → List Post → List Posted
 posts_from hosts i ps = map (posted_at i (new_nodes hosts.base_of hosts.count 1)) ps
 
--- One node did this: it stands so now, with further records, and posted these; its effects came.
-abbrev pub after : Hosts → ℕ → Net → Place → State → List Record → List Post → Net
-after hosts i u p m rs ps = record {
+-- One node did this: it stands so now, with further records, and posted and accepted these; its effects came.
+abbrev pub after : Hosts → ℕ → Net → Place → State → List Record → List Post → List Accepted → Net
+after hosts i u p m rs ps joins = record {
   places = put_nth i (record { node = Some m; records = p.records ++ rs }) u.places;
   posted = u.posted ++ posts_from hosts i ps;
+  accepted = u.accepted ++ joins;
   happened = u.happened ++ map (happened_at i) m.effects;
 }
 
@@ -126,6 +129,7 @@ abbrev pub without : ℕ → Net → Place → State → Net
 without i u p n = record {
   places = put_nth i (record { node = None; records = p.records }) u.places;
   posted = u.posted;
+  accepted = u.accepted;
   happened = u.happened ++ lost_in i n.book;
 }
 
@@ -136,7 +140,8 @@ as_far n steps = record n { book = book_behind n.book steps; effects = came_of s
 -- a node that did these steps, and ended
 abbrev pub broken : Hosts → ℕ → Net → Place → State → List TurnStep → List Post → Net
 broken hosts i u p n steps ps =
-    without i (after hosts i u p (as_far n steps) (recorded steps) ps) (record { node = Some (as_far n steps); records = p.records ++ recorded steps }) (as_far n steps)
+    without i (after hosts i u p (as_far n steps) (recorded steps) ps (accepted_along hosts i n.book steps))
+    (record { node = Some (as_far n steps); records = p.records ++ recorded steps }) (as_far n steps)
 
 -- a node that has forgotten the effects of its last call
 abbrev pub rested : ℕ → Net → Place → State → Net
@@ -156,11 +161,14 @@ pub data Runs {S : Type 0} (told : S → Told) (hosts : Hosts) : Net → Type 0 
       → nth i u.places ≡ Some p → p.node ≡ Some n → (turn : TakesTurn told result role shrunk n m s t) → (result ≡ turneds.Halted → ⊥)
       → (IsOpened turn.first → Brings hosts u i role (told s))
       → AreSent (steps_in turn.first role n turn.node (told s) (told turn.behind) turn.steps) (doings_in turn.first role n turn.node (told s) (told turn.behind) turn.steps) ps
-      → w ≡ after hosts i u p m (recorded (steps_in turn.first role n turn.node (told s) (told turn.behind) turn.steps)) ps → Runs told hosts w
+      → w ≡ after hosts i u p m (recorded (steps_in turn.first role n turn.node (told s) (told turn.behind) turn.steps)) ps
+      (accepted_along hosts i n.book (steps_in turn.first role n turn.node (told s) (told turn.behind) turn.steps))
+      → Runs told hosts w
   -- it does what its program requests
   asked : {w : Net} (u : Net) (i : ℕ) (p : Place) (n m : State) (id : Numbers) (l : Local) (s t : S) (ps : List Post) → Runs told hosts u
       → nth i u.places ≡ Some p → p.node ≡ Some n → (done : Asked (answers.Done id) n m l (told s) (told t)) → Sent done.3.3.leaving done.3.3.went.made ps
-      → w ≡ after hosts i u p m (records_by (if_landed done.3.3.landed (plan n.book (events.Local l) done.3.0).entry)) ps → Runs told hosts w
+      → w ≡ after hosts i u p m (records_by (if_landed done.3.3.landed (plan n.book (events.Local l) done.3.0).entry)) ps (accepted_between hosts i n.book m.book)
+      → Runs told hosts w
   -- A turn is cut off, or it halts: the first of its steps were done, and some of what they post was sent.
   cut_off : {w : Net} (u : Net) (i : ℕ) (p : Place) (n m : State) (result : Turned) (role : Role) (shrunk : Shrunk) (s t : S) (front rest : List TurnStep) (doings : List Doing) (ps : List Post)
       → Runs told hosts u → nth i u.places ≡ Some p → p.node ≡ Some n → (turn : TakesTurn told result role shrunk n m s t)
@@ -182,12 +190,26 @@ pub record StandsAs (hosts : Hosts) (i : ℕ) (p : Place) (x : Node) : Type 0 wh
   pub book : x.book ≡ option_map (λ (n : State). n.book) p.node
   pub journal : x.journal ≡ p.records
 
--- The world is the net: each node stands there as it does here, and what was posted and what happened is the same.
+-- The world is the net: each node stands there as it does here, and what was posted, what was accepted and what happened is the same.
 pub record IsWorldOf (hosts : Hosts) (net : Net) (w : World) : Type 0 where
   pub nodes : (i : ℕ) (p : Place) → nth i net.places ≡ Some p → (x : Node) × (nth i w.nodes ≡ Some x) × StandsAs hosts i p x
   pub posted : w.posted ≡ net.posted
+  pub accepted : w.accepted ≡ net.accepted
   pub happened : w.happened ≡ net.happened
 
--- Whatever nodes do that serve and post to one another, they are a world that the model reaches.
+-- A node as its place shows it. A place shows no clock: the time of a step is that of the call which did it.
+abbrev pub shown_node : Hosts → ℕ → Place → Node
+shown_node hosts i p = record { base = hosts.base_of i; book = option_map (λ (n : State). n.book) p.node; journal = p.records; clock = 0 }
+
+-- those of places numbered from this one on
+abbrev pub shown_nodes : Hosts → ℕ → List Place → List Node
+shown_nodes hosts k [] = []
+shown_nodes hosts k (p ∷ ps) = shown_node hosts k p ∷ shown_nodes hosts (k + 1) ps
+
+-- the world that a net shows
+abbrev pub shown_world : Hosts → Net → World
+shown_world hosts net = record { nodes = shown_nodes hosts 1 net.places; posted = net.posted; accepted = net.accepted; happened = net.happened }
+
+-- Whatever nodes do that serve and post to one another, the world that they show is one that the model reaches.
 abbrev pub NetsAreWorlds : {S : Type 0} → (S → Told) → Type 0
-NetsAreWorlds told = (hosts : Hosts) (net : Net) → Runs told hosts net → (w : World) × Reached hosts w × IsWorldOf hosts net w
+NetsAreWorlds told = (hosts : Hosts) (net : Net) → Runs told hosts net → Reached hosts (shown_world hosts net) × IsWorldOf hosts net (shown_world hosts net)

@@ -1,9 +1,11 @@
--- What a row of steps recorded and posted.
-use Rattle.std.specs.Prelude.{List, [], ◌∷◌, ◌++◌, ◌≡◌, ◌⊎◌, Option, Some, None, map}
+-- What a row of steps recorded, posted and accepted.
+use Rattle.std.specs.Prelude.{ℕ, List, [], ◌∷◌, ◌++◌, ◌≡◌, ◌⊎◌, Option, Some, None, map}
 use Rattle.at_base.specs.declared.outs.Out.{Out}
 use Rattle.at_base.specs.declared.outs.Out.TheVariants as outs
 use Rattle.at_base.specs.declared.outs.Post.{Post}
 use Rattle.at_base.specs.declared.record.Record.{Record}
+use Rattle.at_model.specs.Book.{Book}
+use Rattle.at_model.specs.World.{Accepted, Hosts, accepted_in, new_nodes}
 use Rattle.site_model.specs.Told.{Made, sent_by}
 use Rattle.node_at.specs.Doings.{Doing}
 use Rattle.node_at.specs.Steps.{if_landed}
@@ -47,3 +49,13 @@ AreSent [] [] ps = ps ≡ []
 AreSent [] (d ∷ ds) ps = ⊥
 AreSent (s ∷ ss) [] ps = ⊥
 AreSent (s ∷ ss) (d ∷ ds) ps = (qs rs : List Post) × Sent s.leaving d.made qs × AreSent ss ds rs × (ps ≡ qs ++ rs)
+
+-- The registrations that a step of this node accepted: those that its book behind it has beyond its book before it. A participant is the
+-- item of the node whose base its address has.
+abbrev pub accepted_between : Hosts → ℕ → Book → Book → List Accepted
+accepted_between hosts i before behind = accepted_in i (new_nodes hosts.base_of hosts.count 1) before behind.transactions
+
+-- the same of a row of steps, each by the book before it and behind it
+abbrev pub accepted_along : Hosts → ℕ → Book → List TurnStep → List Accepted
+accepted_along hosts i b [] = []
+accepted_along hosts i b (s ∷ ss) = accepted_between hosts i b s.behind ++ accepted_along hosts i s.behind ss

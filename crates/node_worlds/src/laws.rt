@@ -1,6 +1,7 @@
 //! Laws of nodes that serve.
 
 ghost use Rattle.node_worlds.specs.Agreement.{AgreesWherever, NetsAgree};
+ghost use Rattle.node_worlds.specs.GrowingNets.{NetsGrow};
 ghost use Rattle.node_worlds.specs.KeptRecords.{NetsKeep};
 ghost use Rattle.node_worlds.specs.Leads.{StepsLead, TurnsLead};
 ghost use Rattle.node_worlds.specs.Nets.{NetsAreWorlds};
@@ -26,8 +27,8 @@ pub fn turns_lead()
     walks_the_due();
 }
 
-/// Whatever nodes do that serve and post to one another, over any machine: they are a world that the model reaches, in which each
-/// has the book and the records that it has here, and in which the same was posted and the same happened.
+/// Whatever nodes do that serve and post to one another, over any machine: the world that they show is one that the model reaches, in
+/// which each has the book and the records that it has here, and in which the same was posted and accepted and the same happened.
 pub fn nets_are_worlds<S: Site>()
     ensures { NetsAreWorlds S.told }
 {
@@ -35,6 +36,12 @@ pub fn nets_are_worlds<S: Site>()
     recovers_the_compacted();
     shrinks_the_same();
 }
+
+/// What was posted and accepted among such nodes, and what happened, only grows: each net that they came through shows an earlier moment
+/// of the world that they show.
+pub fn nets_grow<S: Site>()
+    ensures { NetsGrow S.told }
+{}
 
 /// What each node of such a net keeps is what the records of its journal make of it.
 pub fn nets_keep<S: Site>()
@@ -58,7 +65,8 @@ pub fn agrees_wherever()
     ensures { AgreesWherever }
 {}
 
-/// Agreement among nodes with addresses of their own that serve (WS-AtomicTransaction 1.2, section 1).
+/// Agreement among nodes with addresses of their own that serve, in the world that they show: of no transaction, by what their own steps
+/// accepted, do two participants end differently (WS-AtomicTransaction 1.2, section 1).
 pub fn nets_agree<S: Site>()
     ensures { NetsAgree S.told }
 {

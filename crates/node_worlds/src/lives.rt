@@ -43,7 +43,8 @@ pub fn crashes_are_met<S: Site>()
     shrinks_the_same();
 }
 
-/// Agreement among nodes with addresses of their own on such machines (WS-AtomicTransaction 1.2, section 1).
+/// Agreement among nodes with addresses of their own on such machines, in the world that they show (WS-AtomicTransaction 1.2,
+/// section 1).
 pub fn machines_agree<S: Site>()
     ensures { MachinesAgree S.told }
 {
