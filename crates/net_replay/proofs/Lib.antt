@@ -1,2 +1,3 @@
 pub mod FollowedNets
 pub mod ReportedNets
+pub mod TellingReports

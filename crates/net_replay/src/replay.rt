@@ -14,6 +14,7 @@ ghost use Rattle.settlement.specs.declared.run_error.RunError.TheVariants as run
 use crate::followed::followed;
 use crate::message_bytes::shown;
 use crate::replay_error::ReplayError;
+use memory_net::laws::stays_closed;
 use memory_net::letter::Letter;
 use mirrored_nets::fault::Fault;
 use mirrored_nets::net::Net;
@@ -24,8 +25,10 @@ use replay_cmd::laws::{reports_are_safe, reports_come_to_rest};
 use replay_cmd::lines::Lines;
 use replay_cmd::options::Options;
 use replay_cmd::replay::ended;
+use reported_effects::reports_tell;
 use schedules::line::Schedule;
 use settlement::run_error::RunError;
+use site_memory::machine::MemSite;
 use std::alloc::{AllocError, Global};
 
 /// A report, and the nodes that it is of, as they are at its end.
@@ -69,6 +72,8 @@ fn with_nodes(alloc: Global, schedule: &Schedule, options: Options) -> Result<Re
 {
     courses_are_possible();
     reports_are_safe();
+    reports_tell();
+    stays_closed::<MemSite>();
     let course = match play(alloc, schedule, options) {
         Ok(course) => course,
         Err(RunError::NoMemory) => return Err(ReplayError::NoMemory),
@@ -87,7 +92,8 @@ fn with_nodes(alloc: Global, schedule: &Schedule, options: Options) -> Result<Re
 }
 
 /// The report of a schedule, and its nodes: each was started on a machine in memory, and changed by turns and requests alone, as its lines say;
-/// what a message brought it are the bytes by which another had posted it. At the end they are the nodes of the report's world.
+/// what a message brought it are the bytes by which another had posted it. At the end they are the nodes of the report's world. The lines that begin
+/// with `root`, `sub`, `leaf` or `told` are, in order, those of what happened in that world.
 /// No two participants of one transaction ended differently there, through any depth of interposition (`safe`; WS-AtomicTransaction 1.2, section 1).
 ///
 /// With `settle` the events that bring the world to rest happen behind the last line, and are reported as others are. Behind them

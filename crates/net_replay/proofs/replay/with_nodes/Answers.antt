@@ -8,7 +8,8 @@ use Rattle.net_replay.proofs.replay.with_nodes.Goals as goal
 
 pub returns-in-Ok-print-clause-report : goal.returns-in-Ok-print-clause-report
 returns-in-Ok-print-clause-report c =
-    is_report c.args.options c.args.schedule.now c.in-Ok.course c.in-Ok-print.lines c.in-Ok-followed.net c.in-Ok.ensures.course
+    is_report c.reports_tell.ensures c.stays_closed.ensures c.reports_are_safe.ensures c.args.options c.args.schedule.now c.in-Ok.course c.in-Ok-print.lines c.in-Ok-followed.net
+    c.requires.replayable c.in-Ok.ensures.course
     (c.in-Ok-print.ensures ∙ ap (λ ls. shown c.args.options.bytes (map mail_of ls) (whole c.in-Ok.course)) c.letters.ensures)
     (c.in-Ok-followed.ensures.run
     (possible c.reports_are_safe.ensures c.courses_are_possible.ensures c.args.options c.args.schedule.now c.in-Ok.course c.requires.replayable c.in-Ok.ensures.course c.requires.within))

@@ -1,0 +1,4 @@
+pub mod PrintedTexts
+pub mod PrintedLines
+mod MovedEffects
+mod ReportedEffects

@@ -1,0 +1,2 @@
+pub mod EffectLines
+pub mod Examples
