@@ -9,6 +9,5 @@ pub mod MailedPosts
 pub mod Going
 pub mod Asking
 pub mod GoingOn
-pub mod HostCalls
 pub mod NoMessages
 pub mod ShortLetters

@@ -62,6 +62,19 @@ fn print(
     shown(alloc, report, letters, bytes)
 }
 
+/// As what a run's fault is told: a journal that has no room is not want of memory.
+fn told_as(fault: Fault) -> ReplayError
+    requires { fault ≡ Apart → ⊥ }
+    ensures full { fault ≡ faults.Full → result ≡ Full }
+    ensures memory { fault ≡ faults.NoMemory → result ≡ NoMemory }
+{
+    match fault {
+        Fault::NoMemory => ReplayError::NoMemory,
+        Fault::Full => ReplayError::Full,
+        Fault::Apart => unreachable!(),
+    }
+}
+
 #[tactic(auto, using(crate::proofs::ReportedNets::has_no_room, crate::proofs::ReportedNets::possible))]
 fn with_nodes(alloc: Global, schedule: &Schedule, options: Options) -> Result<Replayed, ReplayError>
     requires replayable { IsReplayable schedule.now }
@@ -81,9 +94,7 @@ fn with_nodes(alloc: Global, schedule: &Schedule, options: Options) -> Result<Re
     };
     let net = match followed(alloc, &course) {
         Ok(net) => net,
-        Err(Fault::NoMemory) => return Err(ReplayError::NoMemory),
-        Err(Fault::Full) => return Err(ReplayError::Full),
-        Err(Fault::Apart) => unreachable!(),
+        Err(fault) => return Err(told_as(fault)),
     };
     match print(alloc, course, net.letters(), options.bytes) {
         Ok(lines) => Ok(Replayed { lines, net }),

@@ -1,12 +1,12 @@
 -- A turn, put together.
-use Rattle.std.proofs.Common.{ℕ, List, [], ◌∷◌, ◌++◌, ◌+◌, ◌≡◌, ◌≤◌, inl, inr, ⊎_elim, Bool, true, false, Option, Some, None, Result, Ok, Err, refl, sym, ◌∙◌, ap, subst, true≢false, arith}
+use Rattle.std.proofs.Common.{ℕ, List, [], ◌∷◌, ◌++◌, ◌+◌, ◌≡◌, ◌≤◌, inl, inr, ⊎_elim, Bool, true, false, Option, Some, None, option_map, Result, Ok, Err, refl, sym, ◌∙◌, ap, subst, true≢false, arith}
 use Rattle.std.proofs.lemmas.List.{append-nil}
 use Rattle.at_base.specs.declared.event.Event.{Event}
 use Rattle.at_base.specs.declared.event.Event.TheVariants as events
 use Rattle.at_model.specs.Book.{Book}
 use Rattle.at_model.specs.Step.{Outcome, plan, step}
 use Rattle.http_post.specs.Conversations.{Hears as Heard, IsSaid, IsUnsaid, said}
-use Rattle.site_model.specs.Calls.{Closes, Reads, Takes}
+use Rattle.site_model.specs.Calls.{Closes, Reads, Takes, shut}
 use Rattle.site_model.specs.Counts.{Rose}
 use Rattle.site_model.specs.Site.{Counts as Numbers, Took}
 use Rattle.site_model.specs.Told.{Link, Made, Still, Told}
@@ -289,6 +289,17 @@ lost_first turneds.Closed ls meaning now n m old mid new still later works = abs
 lost_first turneds.LinkDown ls meaning now n m old mid new still later works = absurd works
 
 -- A connection that is open.
+-- what is shut brings nothing
+is_shut : (before after : Option Link) → after ≡ option_map shut before → (l : Link) → after ≡ Some l → l.open_bytes ≡ []
+is_shut None after none l is = absurd (nothing (sym none ∙ is))
+  where
+    nothing : None ≡ Some l → ⊥
+    nothing e = absurd cc
+is_shut (Some k) after shuts l is = ap (λ (z : Link). z.open_bytes) (same (sym is ∙ shuts))
+  where
+    same : Some l ≡ Some (shut k) → l ≡ shut k
+    same e = cc
+
 pub serves_so : (result : Turned) (role : Role) (meaning : Meaning) (now : ℕ) (n m : State) (old heard timed done new : Told) → Hears role (open_input old.link) meaning → IsFit meaning
     → (meaning ≡ Lost → Rose old.counts.receive heard.counts.receive) → ((meaning ≡ Lost → ⊥) → heard.counts.receive ≡ old.counts.receive)
     → (made : List Made) × (Heard made old heard × IsLine (open_input old.link) (is_heard meaning) old heard made) → NoLess old.counts heard.counts → Reads now heard timed
@@ -314,6 +325,7 @@ serves_so result role meaning now n m old heard timed done new h fit lost receiv
       counted = λ is bytes e.
           let (waits, (k, said)) = line.exact is bytes e in
           counted_behind result (unsaid_in made) made meaning now n m old heard timed done new line_said begun works closes.still closed (line_counted waits _ _ made later.link said) read.link;
+      closed = is_shut done.link new.link closes.link;
       later = no_less_then old.counts heard.counts new.counts later rest;
     }
 

@@ -131,7 +131,7 @@ unsaid_in [] = 0
 unsaid_in (m ∷ ms) = (if m.done then 0 else 1) + unsaid_in ms
 
 -- What a turn over an open connection that brings this did. The clock is asked once. Where a request was there, a line that
--- wasn't said is counted beside the answers and posts that were lost.
+-- wasn't said is counted beside the answers and posts that were lost. At the end the connection is closed.
 pub record Serves (result : Turned) (role : Role) (input : Option (List ℕ)) (n m : State) (old new : Told) : Type 0 where
   pub meaning : Meaning
   pub heard : Hears role input meaning
@@ -144,6 +144,7 @@ pub record Serves (result : Turned) (role : Role) (input : Option (List ℕ)) (n
   pub received : (meaning ≡ Lost → ⊥) → new.counts.receive ≡ old.counts.receive
   pub works : Works result (line_of made) meaning now n m old new
   pub counted : is_heard meaning ≡ true → (bytes : List ℕ) → input ≡ Some bytes → Counts (unsaid_in made + lost_in result (line_of made) meaning now n m old new works) old.counts.link new.counts.link
+  pub closed : (l : Link) → new.link ≡ Some l → l.open_bytes ≡ []
   pub later : NoLess old.counts new.counts
 
 -- a request was there, and was answered
