@@ -4,13 +4,16 @@
 It reads README.md, CHANGELOG.md if there is one, docs/ and the comments of crates.txt. What stands between backquotes is a name:
 of a file, from the top, from crates/ or from the folder of the crate that was named last; of a crate; of a function, a clause, a
 definition, a field or a test in some crate; of an option of `atx`. In the tables of docs/CLAIMS.md a function is looked up in its row's
-crate, and a clause in the contract of its function. Run it anywhere: python3 docs/check.py
+crate, and a clause in the contract of its function. The toolchain is named as `rt version` names it. Run it anywhere:
+python3 docs/check.py
 
 Each name that isn't there is printed, as FILE:LINE: what is missing, and the status is 1; else how many were checked, and it is 0.
 """
 
 import pathlib
 import re
+import shutil
+import subprocess
 import sys
 
 TOP = pathlib.Path(__file__).resolve().parent.parent
@@ -361,6 +364,21 @@ def comments(house):
     return missing, checked
 
 
+def toolchain():
+    """Places that name the toolchain otherwise than `rt version` does, where that is there."""
+    if not shutil.which("rt"):
+        return [], 0
+    said = subprocess.run(["rt", "version"], capture_output=True, text=True).stdout.strip()
+    missing, checked = [], 0
+    for name in ("README.md", "docs/CLAIMS.md", "crates/command_line/src/commands.rt"):
+        for number, line in enumerate((TOP / name).read_text().splitlines(), 1):
+            for found in re.findall(r"rattle-kit-\w+ logic \w+", line):
+                checked += 1
+                if found != said:
+                    missing.append(f"{name}:{number}: {found}, and rt version says {said}")
+    return missing, checked
+
+
 def main():
     if len(sys.argv) > 1:
         print("usage: check.py", file=sys.stderr)
@@ -374,7 +392,7 @@ def main():
             document.read()
             missing += document.missing
             checked += document.checked
-    for more, number in (rows(house), comments(house)):
+    for more, number in (rows(house), comments(house), toolchain()):
         missing += more
         checked += number
     for line in missing:

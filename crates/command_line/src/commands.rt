@@ -96,7 +96,7 @@ fn top<'a>(alloc: Global) -> Result<Command<'a>, AllocError>
 {
     Command::new(alloc, "atx")
         .about("Atomic transactions between web services (WS-AtomicTransaction 1.2)")
-        .version("0.1.0")
+        .version("0.1.0 (proved by rattle-kit-13f logic dac8208d650f15bf)")
         .no_binary_name(true)
         .disable_help_subcommand(true)
         .subcommand_required(true)

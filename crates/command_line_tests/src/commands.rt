@@ -408,7 +408,10 @@ fn words_that_are_no_job(rt: HostRuntime) -> Result<(), Fail> {
 
 /// Questions, and the answers.
 const QUESTIONS: &[(&str, &str)] = &[
-    ("--version", "atx 0.1.0\n"),
+    (
+        "--version",
+        "atx 0.1.0 (proved by rattle-kit-13f logic dac8208d650f15bf)\n",
+    ),
     ("--help", HELP),
     ("-h cell", HELP),
     ("check --help", CHECK_HELP),
