@@ -2,9 +2,10 @@
 
 ghost use Rattle.std.specs.Prelude.{◌≡◌, IfErr, IfOk, List, Option, map};
 ghost use Rattle.memory_net.specs.Mails.{mail_of};
+ghost use Rattle.mirrored_nets.specs.declared.fault.Fault.TheVariants as faults;
 ghost use Rattle.net_replay.specs.MessageBytes.{shown};
 ghost use Rattle.net_replay.specs.NetReports.{HasNoRoom, IsCourseOf, IsNetReport, TakesTooManyEvents};
-ghost use Rattle.net_replay.specs.declared.replay_error.ReplayError.TheVariants.{Full, TooManyEvents};
+ghost use Rattle.net_replay.specs.declared.replay_error.ReplayError.TheVariants.{Full, NoMemory, TooManyEvents};
 ghost use Rattle.possible_courses.specs.ScheduleLines.{AreWithin};
 ghost use Rattle.raw_requests.specs.declared.Drawn.{Drawn as Drew};
 ghost use Rattle.replay_cmd.specs.Laws.{ComesToRest, IsReplayable, IsSafe};
@@ -64,7 +65,7 @@ fn print(
 
 /// As what a run's fault is told: a journal that has no room is not want of memory.
 fn told_as(fault: Fault) -> ReplayError
-    requires { fault ≡ Apart → ⊥ }
+    requires { fault ≡ faults.Apart → ⊥ }
     ensures full { fault ≡ faults.Full → result ≡ Full }
     ensures memory { fault ≡ faults.NoMemory → result ≡ NoMemory }
 {
