@@ -291,7 +291,7 @@ lost_first turneds.LinkDown ls meaning now n m old mid new still later works = a
 -- A connection that is open.
 -- what is shut brings nothing
 is_shut : (before after : Option Link) → after ≡ option_map shut before → (l : Link) → after ≡ Some l → l.open_bytes ≡ []
-is_shut None after none l is = absurd (nothing (sym none ∙ is))
+is_shut None after shuts l is = absurd (nothing (sym shuts ∙ is))
   where
     nothing : None ≡ Some l → ⊥
     nothing e = absurd cc
@@ -395,6 +395,7 @@ opens_so result role n m old mid new takes h =
             subst (λ z. Counts z old.counts.link new.counts.link) (ap (λ z. unsaid_in h.made + z) (sym (lost_first result (line_of h.made) h.meaning h.now (calm n) m old mid new takes.still later h.works)))
             (subst (λ z. Counts (unsaid_in h.made + lost_in result (line_of h.made) h.meaning h.now (calm n) m mid new h.works) z new.counts.link) kept (h.counted is bytes (input ∙ e)));
         later = no_less_then old.counts mid.counts new.counts later h.later;
+        closed = h.closed;
       };
       taken = let a = takes.counts.counted.0.at_least in let b = h.later.taken in omega (arith, a, b);
     }
