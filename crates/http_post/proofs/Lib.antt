@@ -3,6 +3,7 @@ mod PartialHeads
 mod FieldMaps
 mod HeadFields
 mod Firsts
+mod Comings
 mod Counts
 mod TextSplits
 mod RawBytes

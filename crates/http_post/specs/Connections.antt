@@ -1,5 +1,5 @@
 -- What a node's machine tells of the connection that is open, and what reading from it leaves alone.
-use Rattle.std.specs.Prelude.{ℕ, List, Option, ◌≡◌, option_map}
+use Rattle.std.specs.Prelude.{ℕ, List, Option, ◌≡◌, ◌<◌, IfSome, length, option_map}
 use Rattle.site_model.specs.Told.{Link, Still, Told}
 
 abbrev pub coming : Link → List ℕ
@@ -14,6 +14,10 @@ left told = option_map coming told.link
 
 abbrev pub waiting : Told → Option (List (List ℕ))
 waiting told = option_map behind told.link
+
+-- it was to bring something, where the machine tells what
+abbrev pub HasCome : Option (List ℕ) → Type 0
+HasCome left = IfSome left (λ input. 0 < length input)
 
 -- reading takes of the connection's bytes, may raise the count of its failures, and changes nothing else
 pub record Stays (old new : Told) : Type 0 where

@@ -6,7 +6,7 @@ ghost use Rattle.httparse.specs.Grammar.{HasNoRequest};
 ghost use Rattle.httparse.specs.Spans.{IsRequestOf, IsRequestWithin};
 ghost use Rattle.site_model.specs.Counts.{Rose};
 ghost use Rattle.http_post.specs.Causes.{UnlessFailed};
-ghost use Rattle.http_post.specs.Connections.{Leaves, left};
+ghost use Rattle.http_post.specs.Connections.{HasCome, Leaves, left};
 ghost use Rattle.http_post.specs.declared.head.HeadFault.TheVariants as faults;
 ghost use Rattle.http_post.specs.declared.head.PieceFault.TheVariants as pieces;
 ghost use Rattle.http_post.specs.PartialHeads.{HasNoHead, HoldsHead, IsPiece, IsRead};
@@ -56,6 +56,7 @@ pub enum HeadFault {
     /// The first 8,192 bytes don't begin with one.
     NoHead,
     Failed,
+    /// Bytes came, and there was no memory for them.
     NoMemory,
 }
 
@@ -66,7 +67,29 @@ enum PieceFault {
     NoMemory,
 }
 
+/// Why no head was read where there is no memory to begin one: whether anything comes is looked at first.
+#[tactic(auto, using(crate::proofs::Comings::came_by, crate::proofs::Comings::nothing_came))]
+fn unread_head<S: Site>(site: &mut S) -> HeadFault
+    ensures later { (S.told site.old).counts.receive ≤ (S.told site.new).counts.receive }
+    ensures leaves { Leaves S.told site.old site.new }
+    ensures failed { result ≡ faults.Failed → Rose ((S.told site.old).counts.receive) ((S.told site.new).counts.receive) }
+    ensures refused { UnlessFailed result ((S.told site.new).counts.receive ≡ (S.told site.old).counts.receive) }
+    ensures none { IfNoHead result (HasNoHead (left (S.told site.old))) }
+    ensures came { result ≡ faults.NoMemory → HasCome (left (S.told site.old)) }
+{
+    let mut buf = [0u8; 1];
+    let n = match receive(site, &mut buf) {
+        Ok(n) => n,
+        Err(Failed) => return HeadFault::Failed,
+    };
+    if n == 0 {
+        return HeadFault::NoHead;
+    }
+    HeadFault::NoMemory
+}
+
 /// Adds what one read gives, at most to 8,192 bytes in all.
+#[tactic(auto, using(crate::proofs::Comings::came_by))]
 fn read_piece<S: Site>(site: &mut S, bytes: &mut Vec<u8>) -> Result<usize, PieceFault>
     requires { length bytes.old.items < 8192 }
     ensures piece { IfOk result (λ n. IsPiece (left (S.told site.old)) (left (S.told site.new)) bytes.old.items bytes.new.items n) }
@@ -75,6 +98,7 @@ fn read_piece<S: Site>(site: &mut S, bytes: &mut Vec<u8>) -> Result<usize, Piece
     ensures failed { IfErr result (λ e. e ≡ pieces.Failed → Rose ((S.told site.old).counts.receive) ((S.told site.new).counts.receive)) }
     ensures quiet { OnOk result ((S.told site.new).counts.receive ≡ (S.told site.old).counts.receive) }
     ensures lacking { IfErr result (λ e. e ≡ pieces.NoMemory → (S.told site.new).counts.receive ≡ (S.told site.old).counts.receive) }
+    ensures came { IfErr result (λ e. e ≡ pieces.NoMemory → HasCome (left (S.told site.old))) }
 {
     let mut buf = [0u8; 1024];
     let room = (MOST_HEAD - bytes.len()).min(1024);
@@ -82,6 +106,9 @@ fn read_piece<S: Site>(site: &mut S, bytes: &mut Vec<u8>) -> Result<usize, Piece
         Ok(n) => n,
         Err(Failed) => return Err(PieceFault::Failed),
     };
+    if n == 0 {
+        return Ok(0);
+    }
     match bytes.extend_from_slice(&buf[..n]) {
         Ok(()) => Ok(n),
         Err(AllocError) => Err(PieceFault::NoMemory),
@@ -107,7 +134,7 @@ fn last_head(mut places: Places, bytes: Vec<u8>) -> Option<Head>
 
 /// The head that the connection begins with, and what came with it. The bytes are parsed again only where an empty line
 /// ended, where they have doubled, and where no more are wanted: so a head that comes byte by byte is parsed a few times.
-#[tactic(auto, using(crate::proofs::PartialHeads::nothing_yet, crate::proofs::PartialHeads::grown, crate::proofs::PartialHeads::not_shorter))]
+#[tactic(auto, using(crate::proofs::PartialHeads::nothing_yet, crate::proofs::PartialHeads::grown, crate::proofs::PartialHeads::not_shorter, crate::proofs::Comings::came_before))]
 pub fn read_head<S: Site>(alloc: Global, site: &mut S) -> Result<Head, HeadFault>
     ensures head { IfOk result (λ h. HoldsHead (left (S.told site.old)) h.bytes.items h.places h.spans) }
     ensures read { IfOk result (λ h. IsRead h.bytes.items h.places h.spans) }
@@ -118,9 +145,10 @@ pub fn read_head<S: Site>(alloc: Global, site: &mut S) -> Result<Head, HeadFault
     ensures quiet { OnOk result ((S.told site.new).counts.receive ≡ (S.told site.old).counts.receive) }
     ensures refused { IfErr result (λ e. UnlessFailed e ((S.told site.new).counts.receive ≡ (S.told site.old).counts.receive)) }
     ensures none { IfErr result (λ e. IfNoHead e (HasNoHead (left (S.told site.old)))) }
+    ensures came { IfErr result (λ e. e ≡ faults.NoMemory → HasCome (left (S.told site.old))) }
 {
     let Ok(mut places) = Places::new(alloc) else {
-        return Err(HeadFault::NoMemory);
+        return Err(unread_head(site));
     };
     let mut bytes = Vec::new(alloc);
     let mut tail = Tail::Blank;

@@ -3,7 +3,7 @@
 ghost use Rattle.std.specs.Prelude.{ℕ, List, ◌≡◌, ◌≢◌, ◌≤◌, ◌⊎◌, Err, IfErr, IfOk, Ok, OnOk, Some, drop};
 ghost use Rattle.site_model.specs.Told.{Link, Made};
 ghost use Rattle.http_post.specs.Causes.{HasLinkCause};
-ghost use Rattle.http_post.specs.Connections.{Leaves, left};
+ghost use Rattle.http_post.specs.Connections.{HasCome, Leaves, left};
 ghost use Rattle.http_post.specs.Conversations.{HasCauses, Hears, InOrder, IsHeard, IsRefused, IsSaid, Says, Speaks, TookHead, interim};
 ghost use Rattle.http_post.specs.FieldMaps.{Draws, SaysOf};
 ghost use Rattle.http_post.specs.PartialHeads.{IsRead};
@@ -68,13 +68,15 @@ fn judged(alloc: Global, head: &Head) -> Result<Heard, HttpRefusal>
 }
 
 /// Hears a head out, and judges it.
-#[tactic(auto, using(crate::proofs::Conversations::heard, crate::proofs::Conversations::drawn, crate::proofs::Conversations::nothing_heard))]
+#[tactic(auto, using(crate::proofs::Conversations::heard, crate::proofs::Conversations::drawn, crate::proofs::Conversations::nothing_heard, crate::proofs::Comings::head_came))]
 fn hear<S: Site>(alloc: Global, site: &mut S) -> Result<Heard, HttpRefusal>
     ensures ok { IfOk result (λ h. (input : List ℕ) → left (S.told site.old) ≡ Some input → IsHeard input (left (S.told site.new)) h.asking.path h.asking.framing h.asking.waits h.rest.items) }
     ensures err { IfErr result (λ e. IsFault e (λ r. (input : List ℕ) → left (S.told site.old) ≡ Some input → IsRefused input r)) }
     ensures cause { HasLinkCause (S.told site.old).counts.receive (S.told site.new).counts.receive result }
     ensures leaves { Leaves S.told site.old site.new }
     ensures early { OnOk result (TookHead (left (S.told site.old)) (left (S.told site.new))) }
+    ensures some { OnOk result (HasCome (left (S.told site.old))) }
+    ensures came { IfErr result (λ e. e ≡ refusals.NoMemory → HasCome (left (S.told site.old))) }
 {
     let head = match read_head(alloc, site) {
         Ok(head) => head,
@@ -122,13 +124,16 @@ fn hear_body<S: Site>(alloc: Global, site: &mut S, heard: Heard) -> Result<Reque
 }
 
 /// Takes a request of the connection that is open: what its bytes ask, or the first refusal that holds, in whatever pieces
-/// they come. The interim line is sent where the client waits for it, before more of the body is read.
+/// they come. The interim line is sent where the client waits for it, before more of the body is read. Memory is wanted only where
+/// something came.
 pub fn take_request<S: Site>(alloc: Global, site: &mut S) -> Result<Request, HttpRefusal>
     ensures ok { IfOk result (λ r. (link : Link) → (S.told site.old).link ≡ Some link → Asks link.open_bytes (Ok (record { path = r.path; body = r.body.items }))) }
     ensures err { IfErr result (λ e. IsFault e (λ r. (link : Link) → (S.told site.old).link ≡ Some link → Asks link.open_bytes (Err r))) }
     ensures cause { HasCauses (S.told site.old).counts (S.told site.new).counts result }
     ensures hears { (made : List Made) × (Hears made (S.told site.old) (S.told site.new) × Says result (S.told site.old) (S.told site.new) made) }
     ensures order { ((S.told site.new).calls ≡ (S.told site.old).calls) ⊎ InOrder S.told site.old site.new }
+    ensures some { OnOk result (HasCome (left (S.told site.old))) }
+    ensures came { IfErr result (λ e. e ≡ refusals.NoMemory → HasCome (left (S.told site.old))) }
 {
     let heard = match hear(alloc, site) {
         Ok(heard) => heard,
