@@ -1,0 +1,2 @@
+pub mod PrintedAgreement
+pub mod Examples
