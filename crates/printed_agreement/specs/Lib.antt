@@ -1,2 +1,4 @@
+pub mod RegisterAnswers
+pub mod PlainPosts
 pub mod PrintedAgreement
 pub mod Examples

@@ -1,0 +1,4 @@
+mod Texts
+mod Answers
+mod Places
+mod Takings
