@@ -2,3 +2,6 @@ mod Texts
 mod Answers
 mod Places
 mod Takings
+mod Entries
+mod Endings
+mod Deliveries

@@ -132,7 +132,7 @@ module _ (count : ℕ) (few : count < 2 ^ 64) (distinct : HaveOwnAddresses (exam
       → ((c : Epr) → q.content.message ≡ messages.RegisterResponse c → Answers (example_hosts count) p c)
       → receiver_number p.receiver ≡ t.node → path_in p.content.to ≡ codes "/registration/" ++ id_text t.id
       → 1 ≤ x.node → receiver_number q.receiver ≡ x.node → message_name q.content.message ≡ codes "RegisterResponse" → path_in q.content.to ≡ codes "/p/d/" ++ id_text x.id
-      → (number : ℕ) × IsAccepted w t (Some (record { number = number; kind = kinds.Durable })) x
+      → (number : ℕ) × IsAccepted w t (Some (record { number = number; kind = kinds.Durable })) x × (x.node ≤ count) × IsId x.id
   accepted p q t x there plain_p plain_q answers node path least to_x name to_path =
       let (c, says) = is_response q.content.message plain_q.message name in
       let (e, goes) = to_some q.content.to _ to_path in
@@ -141,5 +141,7 @@ module _ (count : ℕ) (few : count < 2 ^ 64) (distinct : HaveOwnAddresses (exam
       let (r, number) = received_at count x.node e h (ap (receiver_of (new_nodes example_base count 1)) (sym goes) ∙ sym plain_q.received ∙ received_some q.receiver x.node least to_x) in
       let leads : LeadsTo (example_hosts count) e x.node (targets.Participant x.id kinds.Durable) = r.leads ∙ ap (λ T. Some (x.node, T)) is in
       let a : Answers (example_hosts count) p c = answers c says in
+      let (seat, is_accepted) =
       at_seat p c t x a (shown count p c t a few plain_p node path) (subst IsPlainMessage says plain_q.message)
-      (answer_names (example_hosts count) w distinct reached q there e c x.node (targets.Participant x.id kinds.Durable) goes says leads)
+      (answer_names (example_hosts count) w distinct reached q there e c x.node (targets.Participant x.id kinds.Durable) goes says leads) in
+      (seat, is_accepted, r.most, subst IsWritten is h.written)
