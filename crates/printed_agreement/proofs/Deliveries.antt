@@ -51,7 +51,7 @@ given_alone only posted n k fates until nodes (Some x) e =
 
 -- no other event reads what was posted
 
-abbrev IsNoDelivery : WorldEvent → Type 0
+abbrev pub IsNoDelivery : WorldEvent → Type 0
 IsNoDelivery (Turn n (Deliver k) fates until) = ⊥
 IsNoDelivery other = Unit {0}
 
