@@ -9,7 +9,7 @@ use Rattle.model_laws.specs.Agreement.{IsIn}
 use Rattle.model_laws.specs.ReachedWorlds.{Reached}
 use Rattle.world_laws.specs.Moves.{ChangesByMoves, Scene, after, delivery_move, luck_of, moved_by, moved_in, nodes_by, posted_at, seen, with_all, with_nodes, with_taken}
 use Rattle.world_laws.specs.declared.step_outs.Taken.{Taken}
-use Rattle.printed_agreement.specs.RegisterAnswers.{Answers}
+use Rattle.printed_agreement.specs.RegisterAnswers.{EventsBring, IsBrought, IsNoDelivery}
 use Rattle.printed_agreement.proofs.Entries.{nth_most}
 use Rattle.printed_agreement.proofs.Answers.{AnswersOneOf, event_answers, lone}
 
@@ -51,10 +51,6 @@ given_alone only posted n k fates until nodes (Some x) e =
 
 -- no other event reads what was posted
 
-abbrev pub IsNoDelivery : WorldEvent → Type 0
-IsNoDelivery (Turn n (Deliver k) fates until) = ⊥
-IsNoDelivery other = Unit {0}
-
 given_unread : (posted : List Posted) (e : WorldEvent) (nodes : List Node) (o : Option Node) → IsNoDelivery e → given [] e nodes o ≡ given posted e nodes o
 unfolding given
 given_unread posted (Turn n (Deliver k) fates until) nodes o h = absurd h
@@ -68,16 +64,6 @@ given_unread posted (Crash n) nodes None h = refl
 given_unread posted (Crash n) nodes (Some x) h = refl
 given_unread posted (Up n landed stop) nodes None h = refl
 given_unread posted (Up n landed stop) nodes (Some x) h = refl
-
--- the message that an event delivers
-abbrev pub Delivers : ℕ → WorldEvent → Type 0
-Delivers k (Turn n (Deliver l) fates until) = l ≡ k
-Delivers k other = ⊥
-
--- An answer to a Register answers the message that the event delivers.
-abbrev pub IsBrought : Hosts → World → WorldEvent → Posted → Type 0
-IsBrought hosts w e q =
-    (c : Epr) → q.content.message ≡ messages.RegisterResponse c → (k : ℕ) × Delivers k e × (p : Posted) × (nth k w.posted ≡ Some p) × Answers hosts p c
 
 module _ (moves : ChangesByMoves) (hosts : Hosts) (distinct : HaveOwnAddresses hosts) (w : World) (reached : Reached hosts w) where
   step_posts : (v : World) (e : WorldEvent) → (world_step v e).posted ≡ v.posted ++ given v.posted e v.nodes (nth (node_of e) v.nodes)
@@ -125,3 +111,6 @@ module _ (moves : ChangesByMoves) (hosts : Hosts) (distinct : HaveOwnAddresses h
   -- all that an event posts
   pub event_posts : (e : WorldEvent) → (more : List Posted) × ((world_step w e).posted ≡ w.posted ++ more) × AllByRecursion (IsBrought hosts w e) more
   event_posts e = (given w.posted e w.nodes (nth (node_of e) w.nodes), step_posts w e, event_brings e)
+
+pub events_bring : ChangesByMoves → EventsBring
+events_bring moves hosts w e distinct reached = event_posts moves hosts distinct w reached e

@@ -18,26 +18,9 @@ use Rattle.model_laws.specs.Agreement.{itself as itself_of, below as below_of}
 use Rattle.model_laws.specs.ReachedWorlds.{Reached}
 use Rattle.printed_agreement.specs.PlainPosts.{IsPlain}
 use Rattle.printed_agreement.specs.PrintedAgreement.{AgreesInPrint, Ends, IsOneOf, IsSplitIn, Takes, below, ending_line, itself}
-use Rattle.printed_agreement.proofs.Entries.{Entry, Sound, line_in, taken}
+use Rattle.printed_agreement.specs.ReportLines.{AreTold, Entry, LinesAgree, Sound, effect_text, happened_text, line_in, who}
+use Rattle.printed_agreement.proofs.Entries.{taken}
 use Rattle.printed_agreement.proofs.Texts.{apart, below_digits, decimal_lacks, id_alone, id_lacks, number_alone, parted}
-
-abbrev pub who : ℕ → Numbers → Who
-who n id = record { node = n; id = id }
-
-abbrev pub effect_text : ℕ → Effect → List ℕ
-effect_text n (effects.Root id what) = ending_line (codes "root") (who n id) (ending_word what)
-effect_text n (effects.Sub id what) = ending_line (codes "sub") (who n id) (ending_word what)
-effect_text n (effects.Leaf id kind what) = ending_line (codes "leaf") (who n id) (kind_letter kind ++ (codes " " ++ ending_word what))
-effect_text n (effects.Told id what) = ending_line (codes "told") (who n id) (told_word what)
-
-abbrev pub happened_text : Happened → List ℕ
-happened_text h = effect_text h.node h.what
-
--- Each line that tells so tells what happened.
-pub record AreTold (lines : List (List ℕ)) (all : List Happened) : Type 0 where
-  pub root : (x : Who) (how : List ℕ) → IsIn (ending_line (codes "root") x how) lines → IsIn (ending_line (codes "root") x how) (map happened_text all)
-  pub sub : (x : Who) (how : List ℕ) → IsIn (ending_line (codes "sub") x how) lines → IsIn (ending_line (codes "sub") x how) (map happened_text all)
-  pub leaf : (x : Who) (how : List ℕ) → IsIn (ending_line (codes "leaf") x how) lines → IsIn (ending_line (codes "leaf") x how) (map happened_text all)
 
 -- words
 
@@ -137,3 +120,6 @@ module _ (count : ℕ) (few : count < 2 ^ 64) (distinct : HaveOwnAddresses (exam
       lost : (x : Who) → IsNamed x → Ends lines x (codes "aborted") ⊎ Ends lines x (codes "lost") → HasAborted w x
       lost x named (inl i) = inl (ended lines w x endings.Aborted told named i)
       lost x named (inr i) = inr (ended lines w x endings.Lost told named i)
+
+pub lines_agree : LinesAgree
+lines_agree count w es few distinct reached plain short sound told agreed = agrees_in_print count few distinct w reached plain short es (map line_in es) refl sound told agreed

@@ -24,38 +24,9 @@ use Rattle.agreement.proofs.SeatedEntries.{one_of}
 use Rattle.printed_agreement.specs.PlainPosts.{IsPlain, IsPlainMessage}
 use Rattle.printed_agreement.specs.PrintedAgreement.{Takes, delivery_line, message_line, register_line, response_line}
 use Rattle.printed_agreement.specs.RegisterAnswers.{Answers}
+use Rattle.printed_agreement.specs.ReportLines.{Brings, Delivered, Entry, IsQuiet, Posts, Quiet, Sound, Stands, line_in}
 use Rattle.printed_agreement.proofs.Takings.{accepted}
 use Rattle.printed_agreement.proofs.Texts.{Lacks, apart, below_digits, decimal_lacks, no_arrow, number_alone, parted}
-
-pub data Entry : Type 0 where
-  Delivered : ℕ → ℕ → List ℕ → Entry
-  Posts : ℕ → Posted → Entry
-  Quiet : List ℕ → Entry
-
-abbrev pub line_in : Entry → List ℕ
-line_in (Delivered k n status) = delivery_line k n status
-line_in (Posts k p) = message_line k p.sender (receiver_number p.receiver) (message_name p.content.message) (path_in p.content.to)
-line_in (Quiet line) = line
-
--- no line of a message or of a delivery
-pub record IsQuiet (line : List ℕ) : Type 0 where
-  pub message : (k i j : ℕ) (name path : List ℕ) → line ≡ message_line k i j name path → ⊥
-  pub delivery : (k n : ℕ) (status : List ℕ) → line ≡ delivery_line k n status → ⊥
-
-abbrev pub Stands : World → Entry → Type 0
-Stands w (Delivered k n status) = Unit {0}
-Stands w (Posts k p) = nth k w.posted ≡ Some p
-Stands w (Quiet line) = IsQuiet line
-
--- An answer to a Register that stands behind the line of a delivery answers the message that was delivered.
-abbrev pub Brings : Hosts → World → Entry → List Entry → Type 0
-Brings hosts w (Delivered k n status) (Posts j q ∷ rest) =
-    (c : Epr) → q.content.message ≡ messages.RegisterResponse c → (p : Posted) × (nth k w.posted ≡ Some p) × Answers hosts p c
-Brings hosts w e rest = Unit {0}
-
-abbrev pub Sound : Hosts → World → List Entry → Type 0
-Sound hosts w [] = Unit {0}
-Sound hosts w (e ∷ es) = Stands w e × Brings hosts w e es × Sound hosts w es
 
 -- numbers of messages
 

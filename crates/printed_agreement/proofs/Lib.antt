@@ -5,3 +5,4 @@ mod Takings
 mod Entries
 mod Endings
 mod Deliveries
+mod Soundness

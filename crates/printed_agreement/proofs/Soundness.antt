@@ -5,9 +5,8 @@ use Rattle.std.specs.List.{AllByRecursion}
 use Rattle.at_base.specs.declared.epr.Epr.{Epr}
 use Rattle.at_base.specs.declared.message.Message.TheVariants as messages
 use Rattle.at_model.specs.World.{Posted, World, WorldEvent, Turn, Ask, Crash, Up, Deliver, Tick, Raw, nth, Hosts}
-use Rattle.printed_agreement.specs.RegisterAnswers.{Answers}
-use Rattle.printed_agreement.proofs.Deliveries.{Delivers, IsBrought, IsNoDelivery}
-use Rattle.printed_agreement.proofs.Entries.{Brings, Delivered, Entry, IsQuiet, Posts, Quiet, Sound, Stands}
+use Rattle.printed_agreement.specs.RegisterAnswers.{Delivers, IsBrought, IsNoDelivery}
+use Rattle.printed_agreement.specs.ReportLines.{Brings, Delivered, Entry, IsQuiet, Posts, Quiet, Sound, Stands}
 
 nth_more : {A : Type 0} (n : ℕ) (xs ys : List A) (x : A) → nth n xs ≡ Some x → nth n (xs ++ ys) ≡ Some x
 nth_more n [] ys x e = absurd cc

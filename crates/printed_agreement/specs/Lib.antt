@@ -1,4 +1,5 @@
 pub mod RegisterAnswers
 pub mod PlainPosts
 pub mod PrintedAgreement
+pub mod ReportLines
 pub mod Examples
