@@ -6,3 +6,6 @@ mod Entries
 mod Endings
 mod Deliveries
 mod Soundness
+mod Chunks
+mod Courses
+mod Reports

@@ -116,4 +116,4 @@ pub steps_open : (hosts : Hosts) (w v : World) (e : WorldEvent) (xs : List Entry
 steps_open hosts w v e [] h g = tt
 steps_open hosts w v e (Delivered k n status ∷ xs) h g = tt
 steps_open hosts w v e (Quiet line ∷ xs) h g = tt
-steps_open hosts w v e (Posts j q ∷ xs) h g = λ c says. let (k, delivers, rest) = g.0.1 c says in none_delivers k e h delivers
+steps_open hosts w v e (Posts j q ∷ xs) h g = λ c says. let (k, delivers, p, found, a) = g.0.1 c says in none_delivers k e h delivers
