@@ -134,14 +134,20 @@ module _ (hosts : Hosts) (distinct : HaveOwnAddresses hosts) (start : World) (re
   -- what comes to a node
   came_midst : (n : ℕ) (x : Node) (b : Book) (e : Event) → nth n start.nodes ≡ Some x → Heard lone n x e → Heard start n x e × ((c : Epr) → Asked (hosts.base_of n) e c → (p : Posted) × IsIn p only × Answers hosts p c)
   came_midst n x b (events.Arrived a) found h =
-      let (p, i, received, read) = h in
-      ((p, within p i, received, read), λ c k. (p, i, record {
-        number = n;
-        received = received;
-        arrived = a;
-        read = subst (λ base. decoded base p.content ≡ Some a) (base_is hosts start distinct reached n x found) read;
-        asks = subst (λ z. AsksAt (hosts.base_of n) z c) (same a k.arrived k.came) k.asks;
-      }))
+      let (p, i, received, read) = h in (
+        (p, within p i, received, read),
+        λ c k. (
+          p,
+          i,
+          record {
+            number = n;
+            received = received;
+            arrived = a;
+            read = subst (λ base. decoded base p.content ≡ Some a) (base_is hosts start distinct reached n x found) read;
+            asks = subst (λ z. AsksAt (hosts.base_of n) z c) (same a k.arrived k.came) k.asks;
+          },
+        ),
+      )
     where
       same : (y z : Arrived) → events.Arrived y ≡ events.Arrived z → z ≡ y
       same y z f = cc

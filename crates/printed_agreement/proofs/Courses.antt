@@ -70,8 +70,8 @@ numbered count v F front [] e h k = tt
 numbered count v F front (p ∷ ps) e h k = (
   record { found = ap (nth (length front + 1)) e ∙ nth_at front p ps; plain = k.0; so = h.0 },
   let long = length-append front (p ∷ []) in
-  let same : length (front ++ p ∷ []) + 1 ≡ length front + 1 + 1 = omega (arith, long) in
-  subst (λ i. AreNext count v F i ps) same (numbered count v F (front ++ p ∷ []) ps (e ∙ sym (append_assoc front (p ∷ []) ps)) h.1 k.1),
+      let same : length (front ++ p ∷ []) + 1 ≡ length front + 1 + 1 = omega (arith, long) in
+      subst (λ i. AreNext count v F i ps) same (numbered count v F (front ++ p ∷ []) ps (e ∙ sym (append_assoc front (p ∷ []) ps)) h.1 k.1),
 )
 
 -- what may be met in an event
