@@ -70,45 +70,45 @@ pub id_unbroken : (id : Numbers) → IsUnbroken (id_text id)
 id_unbroken id = unbroken_both (decimal id.incarnation) (hyphen ∷ decimal id.counter) (decimal_unbroken id.incarnation) (decimal_unbroken id.counter)
 
 -- a number and what stands behind it
-abbrev numbered : (n : ℕ) (text : List ℕ) → IsEnd text → IsEnd (decimal n ++ text)
+abbrev pub numbered : (n : ℕ) (text : List ℕ) → IsEnd text → IsEnd (decimal n ++ text)
 numbered n text h = onto (decimal n) text (decimal_unbroken n) h
 
 -- words
 
-start_unbroken : (s : Started) → IsUnbroken (start_word s)
+pub start_unbroken : (s : Started) → IsUnbroken (start_word s)
 start_unbroken (starts.Up incarnation) = decimal_unbroken incarnation
 start_unbroken starts.Stopped = refl
 start_unbroken starts.Failed = refl
 
-outcome_unbroken : (o : Outcome) → IsUnbroken (outcome_word o)
+pub outcome_unbroken : (o : Outcome) → IsUnbroken (outcome_word o)
 outcome_unbroken (outcomes.Answered status) = decimal_unbroken status
 outcome_unbroken outcomes.Stopped = refl
 outcome_unbroken outcomes.Halted = refl
 outcome_unbroken outcomes.Down = refl
 
-refusal_unbroken : (r : Refusal) → IsUnbroken (refusal_word r)
+pub refusal_unbroken : (r : Refusal) → IsUnbroken (refusal_word r)
 refusal_unbroken Full = refl
 refusal_unbroken Stale = refl
 refusal_unbroken Spent = refl
 
-ending_unbroken : (e : Ending) → IsUnbroken (ending_word e)
+pub ending_unbroken : (e : Ending) → IsUnbroken (ending_word e)
 ending_unbroken endings.Committed = refl
 ending_unbroken endings.Aborted = refl
 ending_unbroken endings.Lost = refl
 
-told_unbroken : (t : Told) → IsUnbroken (told_word t)
+pub told_unbroken : (t : Told) → IsUnbroken (told_word t)
 told_unbroken tellings.Committed = refl
 told_unbroken tellings.Aborted = refl
 told_unbroken tellings.Unknown = refl
 told_unbroken tellings.Refused = refl
 
-leaf_unbroken : (k : Kind) (e : Ending) → IsUnbroken (leaf_words k e)
+pub leaf_unbroken : (k : Kind) (e : Ending) → IsUnbroken (leaf_words k e)
 unfolding leaf_words
 leaf_unbroken kinds.Durable e = ending_unbroken e
 leaf_unbroken kinds.Volatile e = ending_unbroken e
 
 -- a word at the end of a line
-abbrev last_word : (word : List ℕ) → IsUnbroken word → IsEnd (codes " " ++ (word ++ codes "\n"))
+abbrev pub last_word : (word : List ℕ) → IsUnbroken word → IsEnd (codes " " ++ (word ++ codes "\n"))
 last_word word h = onto (codes " ") (word ++ codes "\n") refl (onto word (codes "\n") h end)
 
 -- lines that tell nothing
@@ -161,7 +161,7 @@ end_says m c a l =
     (onto (codes " aborted ") _ refl (numbered a _ (onto (codes " lost ") _ refl (numbered l _ end))))))))
     refl
 
-message_part : (k s r : ℕ) (name : List ℕ) → IsUnbroken name → IsPart (message_start k s r name)
+pub message_part : (k s r : ℕ) (name : List ℕ) → IsUnbroken name → IsPart (message_start k s r name)
 unfolding message_start
 message_part k s r name h =
     part (codes "msg ") _ refl (part (decimal k) _ (decimal_unbroken k) (part (codes " ") _ refl (part (decimal s) _ (decimal_unbroken s)
@@ -178,7 +178,7 @@ message_says k p h =
 
 -- lines that tell how something ended
 
-abbrev item_end : (n : ℕ) (id : Numbers) (word : List ℕ) → IsUnbroken word
+abbrev pub item_end : (n : ℕ) (id : Numbers) (word : List ℕ) → IsUnbroken word
     → IsEnd (codes " " ++ (decimal n ++ (codes " " ++ (id_text id ++ (codes " " ++ (word ++ codes "\n"))))))
 item_end n id word h = onto (codes " ") _ refl (numbered n _ (onto (codes " ") _ refl (onto (id_text id) _ (id_unbroken id) (last_word word h))))
 

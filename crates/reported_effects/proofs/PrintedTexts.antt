@@ -91,11 +91,11 @@ pub record Says (text : List ℕ) (all : List Happened) : Type 0 where
 pub says_nothing : Says [] []
 says_nothing = record { lines = []; is = refl; whole = tt; tells = refl }
 
-fed_both : (xs ys : List (List ℕ)) → fed xs ++ fed ys ≡ fed (xs ++ ys)
+pub fed_both : (xs ys : List (List ℕ)) → fed xs ++ fed ys ≡ fed (xs ++ ys)
 fed_both [] ys = refl
 fed_both (x ∷ xs) ys = append_assoc (with_end x) (fed xs) (fed ys) ∙ ap (λ t. with_end x ++ t) (fed_both xs ys)
 
-whole_both : (xs ys : List (List ℕ)) → AllByRecursion IsUnbroken xs → AllByRecursion IsUnbroken ys → AllByRecursion IsUnbroken (xs ++ ys)
+pub whole_both : (xs ys : List (List ℕ)) → AllByRecursion IsUnbroken xs → AllByRecursion IsUnbroken ys → AllByRecursion IsUnbroken (xs ++ ys)
 whole_both [] ys h k = k
 whole_both (x ∷ xs) ys h k = (h.0, whole_both xs ys h.1 k)
 

@@ -1,0 +1,11 @@
+mod Texts
+mod Answers
+mod Places
+mod Takings
+mod Entries
+mod Endings
+mod Deliveries
+mod Soundness
+mod Chunks
+mod Courses
+mod Reports
