@@ -1,1 +1,2 @@
 mod IteratorRest
+mod TopCalls

@@ -2,12 +2,13 @@
 #![tactic(auto)]
 
 mod standard_streams;
+mod top_call;
 mod words;
 
 use crate::standard_streams::{Reading, Writing};
-use crate::words::behind_name;
+use crate::top_call::program;
 use atx_sites::node_site::NodeSite;
-use command_line::run::{NO_JOB, NO_MEMORY, run};
+use command_line::run::{NO_JOB, NO_MEMORY};
 use std::env;
 use std::io::ErrorKind;
 use std::process::ExitCode;
@@ -18,17 +19,8 @@ fn main(rt: HostRuntime) -> ExitCode {
         Err(fault) if fault.kind() == ErrorKind::OutOfMemory => return ExitCode::from(NO_MEMORY),
         Err(_) => return ExitCode::from(NO_JOB),
     };
-    let Ok(words) = behind_name(rt.alloc(), args) else {
-        return ExitCode::from(NO_MEMORY);
-    };
     let mut source = Reading::new(rt.stdin());
     let mut sink = Writing::new(rt.stdout());
     let mut site = NodeSite::new(&rt);
-    ExitCode::from(run(
-        rt.alloc(),
-        words.as_slice(),
-        &mut source,
-        &mut sink,
-        &mut site,
-    ))
+    ExitCode::from(program(rt.alloc(), args, &mut source, &mut sink, &mut site))
 }

@@ -46,10 +46,10 @@ sink_failed endings.Spent e = absurd cc
 sink_failed endings.Full e = absurd cc
 
 pub has_served : {S : Type 0} (told : S → Told) (s : Serving) (lines : List InitiatorLine) (role : Role_served) (ended : Ended) (status : ℕ) (x y : Option (List ℕ)) (old new : S)
-    → role ≡ role_of s.role → Serves told (record { base = codes "http://" ++ s.listen; role = role; limit = 4294967295; lines = lines; turns = s.turns }) ended x y old new
+    → role ≡ role_of s.role → Serves told (record { base = codes "http://" ++ s.listen; journal = s.journal; listen = s.listen; role = role; limit = 4294967295; lines = lines; turns = s.turns }) ended x y old new
     → status ≡ status_by ended → HasServed told s lines status x y old new
 has_served told s lines role ended status x y old new e h is =
-    HasServed.served ended (subst (λ r. Serves told (record { base = codes "http://" ++ s.listen; role = r; limit = 4294967295; lines = lines; turns = s.turns }) ended x y old new) e h) is
+    HasServed.served ended (subst (λ r. Serves told (record { base = codes "http://" ++ s.listen; journal = s.journal; listen = s.listen; role = r; limit = 4294967295; lines = lines; turns = s.turns }) ended x y old new) e h) is
 
 refused_as : (bad : BadLine) (status : ℕ) (a b : Bool) (x y : Option (List ℕ)) → nat_eq status 3 ≡ a → nat_eq status 5 ≡ b → IsTrue (a || (b || false))
     → (status ≡ 3 → Appends x y (bad_line bad)) → (n : ℕ) × ((n ≤ length (bad_line bad)) × Appends x y (take n (bad_line bad))) → Refuses bad status x y

@@ -29,9 +29,9 @@ is_initiator Initiator = true
 abbrev pub journal_limit : ℕ
 journal_limit = 4294967295
 
--- its base is `http://` and its address
+-- its base is `http://` and its address; what is opened are the journal and the address of the words
 abbrev pub service_of : Serving → List InitiatorLine → Serviced
-service_of s lines = record { base = codes "http://" ++ s.listen; role = role_of s.role; limit = journal_limit; lines = lines; turns = s.turns }
+service_of s lines = record { base = codes "http://" ++ s.listen; journal = s.journal; listen = s.listen; role = role_of s.role; limit = journal_limit; lines = lines; turns = s.turns }
 
 -- the status that serving ends with
 abbrev pub status_by : Ended → ℕ

@@ -1,8 +1,10 @@
 -- What a connection was heard to ask.
-use Rattle.std.proofs.Common.{ℕ, List, [], ◌≡◌, ◌⊎◌, Bool, true, false, Option, Some, None, Result, Ok, Err, refl, sym, ◌∙◌, ap, subst, true≢false, if◌then◌else◌, IsTrue}
+use Rattle.std.proofs.Common.{ℕ, List, [], ◌≡◌, ◌<◌, length, ◌⊎◌, Bool, true, false, Option, Some, None, Result, Ok, Err, refl, sym, ◌∙◌, ap, subst, true≢false, if◌then◌else◌, IsTrue}
+use Rattle.std.specs.Prelude.{IfSome, option_map}
 use Rattle.at_base.specs.declared.event.Event.TheVariants as events
 use Rattle.arrivals.specs.BookArrivals.{reaches}
 use Rattle.http_post.specs.Causes.{UnlessLink}
+use Rattle.http_post.specs.Connections.{HasCome, coming, left}
 use Rattle.http_post.specs.Conversations.{IsAnswered, IsSaid, Says as Speaks, Waits}
 use Rattle.http_post.specs.RawBytes.{IsFault}
 use Rattle.http_post.specs.Requests.{Asks}
@@ -68,21 +70,36 @@ has_status faults.NoMemory = refl
 pub fit_refusal : (refusal : Refusal) (m : Meaning) → m ≡ Refused (refusal_status refusal) (refusal_text refusal) → IsFit m
 fit_refusal refusal m e = subst IsFit (sym e) (has_status refusal)
 
+-- bytes that were read mean something
+abbrev IsUnread : Meaning → Type 0
+IsUnread Unread = ⊥
+IsUnread other = Unit {0}
+
+said_something : (role : Role) (path body : List ℕ) (m : Meaning) → Says role path body m → IsUnread m
+said_something role path body m (ticks e) = tt
+said_something role path body m (says_nothing refusal other is a) = tt
+said_something role path body m (says_elsewhere arrival other a e) = tt
+said_something role path body m (says arrival other a e) = tt
+
+means_something : (role : Role) (input : List ℕ) (m : Meaning) → Means role input m → IsUnread m
+means_something role input m (is_refused refusal a) = tt
+means_something role input m (is_request path body a k) = said_something role path body m k
+
 -- what its bytes are, where it tells them
 heard : (role : Role) (input : Option (List ℕ)) (m : Meaning) → ((bytes : List ℕ) → input ≡ Some bytes → Means role bytes m) → Hears role input m
 heard role None m h = tt
 heard role (Some input) (Refused status text) h = h input refl
 heard role (Some input) (Steps event) h = h input refl
 heard role (Some input) Lost h = tt
-heard role (Some input) Unread h = tt
+heard role (Some input) Unread h = absurd (means_something role input Unread (h input refl))
 
 lost_heard : (role : Role) (input : Option (List ℕ)) → Hears role input Lost
 lost_heard role None = tt
 lost_heard role (Some input) = tt
 
-unread_heard : (role : Role) (input : Option (List ℕ)) → Hears role input Unread
-unread_heard role None = tt
-unread_heard role (Some input) = tt
+unread_heard : (role : Role) (input : Option (List ℕ)) → ((bytes : List ℕ) → input ≡ Some bytes → 0 < length bytes) → Hears role input Unread
+unread_heard role None h = tt
+unread_heard role (Some input) h = h input refl
 
 abbrev the : List ℕ → Option (List ℕ) → List ℕ
 the d None = d
@@ -96,6 +113,17 @@ opened : (link : Option Link) (bytes : List ℕ) (P : List ℕ → Type 0) → o
 opened None bytes P e h = absurd (subst IsNone e tt)
 opened (Some l) bytes P e h = subst P (ap (the []) e) (h l refl)
 
+pub came_so : (told : Told) → HasCome (left told) → (bytes : List ℕ) → open_input told.link ≡ Some bytes → 0 < length bytes
+unfolding left
+came_so told h bytes e = by told.link h e where
+  by : (link : Option Link) → IfSome (option_map coming link) (λ input. 0 < length input) → open_input link ≡ Some bytes → 0 < length bytes
+  by None k f = absurd (subst IsNone f tt)
+  by (Some l) k f = subst (λ z. 0 < length z) (ap (the []) f) k
+
+-- there was no memory for what a request says
+pub unread_so : (role : Role) (told : Told) (m : Meaning) → m ≡ Unread → HasCome (left told) → Hears role (open_input told.link) m
+unread_so role told m e h = subst (Hears role (open_input told.link)) (sym e) (unread_heard role (open_input told.link) (came_so told h))
+
 pub request_heard : (role : Role) (link : Option Link) (path body : List ℕ) (m : Meaning) → ((l : Link) → link ≡ Some l → Asks l.open_bytes (request path body)) → Says role path body m
     → Hears role (open_input link) m
 request_heard role link path body m h k =
@@ -105,19 +133,21 @@ fault_means : (role : Role) (bytes : List ℕ) (refusal : HttpRefusal) → Asks 
 fault_means role bytes refusal h = is_refused refusal h
 
 pub fault_heard : (role : Role) (link : Option Link) (refusal : HttpRefusal) (m : Meaning) → m ≡ meaning_at refusal
-    → IsFault refusal (λ r. (l : Link) → link ≡ Some l → Asks l.open_bytes (Err r)) → Hears role (open_input link) m
-fault_heard role link refusal m e h = subst (Hears role (open_input link)) (sym e) (by refusal h) where
+    → IsFault refusal (λ r. (l : Link) → link ≡ Some l → Asks l.open_bytes (Err r)) → (refusal ≡ refusals.NoMemory → (bytes : List ℕ) → open_input link ≡ Some bytes → 0 < length bytes)
+    → Hears role (open_input link) m
+fault_heard role link refusal m e h came = subst (Hears role (open_input link)) (sym e) (by refusal h came) where
   one : (r : HttpRefusal) → ((l : Link) → link ≡ Some l → Asks l.open_bytes (Err r)) → Hears role (open_input link) (Refused (status_of r) None)
   one r k = heard role (open_input link) (Refused (status_of r) None) (λ bytes f. is_refused r (opened link bytes (λ z. Asks z (Err r)) f k))
 
-  by : (r : HttpRefusal) → IsFault r (λ x. (l : Link) → link ≡ Some l → Asks l.open_bytes (Err x)) → Hears role (open_input link) (meaning_at r)
-  by refusals.BadRequest k = one refusals.BadRequest k
-  by refusals.MethodNotAllowed k = one refusals.MethodNotAllowed k
-  by refusals.LengthRequired k = one refusals.LengthRequired k
-  by refusals.ContentTooLarge k = one refusals.ContentTooLarge k
-  by refusals.UnsupportedMediaType k = one refusals.UnsupportedMediaType k
-  by refusals.Link k = lost_heard role (open_input link)
-  by refusals.NoMemory k = unread_heard role (open_input link)
+  by : (r : HttpRefusal) → IsFault r (λ x. (l : Link) → link ≡ Some l → Asks l.open_bytes (Err x)) → (r ≡ refusals.NoMemory → (bytes : List ℕ) → open_input link ≡ Some bytes → 0 < length bytes)
+      → Hears role (open_input link) (meaning_at r)
+  by refusals.BadRequest k some = one refusals.BadRequest k
+  by refusals.MethodNotAllowed k some = one refusals.MethodNotAllowed k
+  by refusals.LengthRequired k some = one refusals.LengthRequired k
+  by refusals.ContentTooLarge k some = one refusals.ContentTooLarge k
+  by refusals.UnsupportedMediaType k some = one refusals.UnsupportedMediaType k
+  by refusals.Link k some = lost_heard role (open_input link)
+  by refusals.NoMemory k some = unread_heard role (open_input link) (some refl)
 
 pub fit_fault : (refusal : HttpRefusal) (m : Meaning) → m ≡ meaning_at refusal → IsFit m
 fit_fault refusal m e = subst IsFit (sym e) (by refusal) where

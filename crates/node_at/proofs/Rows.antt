@@ -158,6 +158,7 @@ no_less_same old new e = subst (NoLess old) (sym e) (record {
   link = omega arith;
   taken = omega arith;
   closings = omega arith;
+  attached = refl;
 })
 
 pub no_less_then : (old mid new : Numbers) → NoLess old mid → NoLess mid new → NoLess old new
@@ -170,6 +171,7 @@ no_less_then old mid new h g = record {
   link = omega (arith, h.link, g.link);
   taken = omega (arith, h.taken, g.taken);
   closings = omega (arith, h.closings, g.closings);
+  attached = g.attached ∙ h.attached;
 }
 
 pub no_less_keeping : (old new : Told) → Keeping old new → NoLess old.counts new.counts
@@ -182,6 +184,7 @@ no_less_keeping old new h = record {
   link = h.link;
   taken = omega (arith, ap (λ (z : Numbers). z.taken) h.others);
   closings = omega (arith, ap (λ (z : Numbers). z.closings) h.others);
+  attached = ap (λ (z : Numbers). z.attached) h.others;
 }
 
 pub ran_one : (s : TurnStep) (n m : State) (old new : Told) → Went s.entry s.landed s.behind s.came s.leaving n m old new → Keeping old new

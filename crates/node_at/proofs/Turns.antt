@@ -198,6 +198,7 @@ no_less_heard made old new h receive link = record {
   link = link;
   taken = omega (arith, ap (λ (z : Numbers). z.taken) h.counts);
   closings = omega (arith, ap (λ (z : Numbers). z.closings) h.counts);
+  attached = ap (λ (z : Numbers). z.attached) h.counts;
 }
 
 pub works_first : (result : Turned) (ls : List Doing) (meaning : Meaning) (now : ℕ) (n m : State) (old mid new : Told) → Still old mid → NoLess old.counts mid.counts → Works result ls meaning now n m mid new
@@ -350,6 +351,7 @@ takes_later (Ok takens.Opened) old new h = record {
   link = omega (arith, ap (λ (z : Numbers). z.link) h.others);
   taken = let r = h.counted.0.at_least in omega (arith, r);
   closings = omega (arith, h.counted.1);
+  attached = ap (λ (z : Numbers). z.attached) h.others;
 }
 takes_later (Ok takens.Closed) old new h = record {
   arming = ap (λ (z : Numbers). z.arming) h.others;
@@ -360,6 +362,7 @@ takes_later (Ok takens.Closed) old new h = record {
   link = omega (arith, ap (λ (z : Numbers). z.link) h.others);
   taken = omega (arith, h.counted.1);
   closings = let r = h.counted.0.at_least in omega (arith, r);
+  attached = ap (λ (z : Numbers). z.attached) h.others;
 }
 takes_later (Err e) old new h = record {
   arming = ap (λ (z : Numbers). z.arming) h.others;
@@ -370,6 +373,7 @@ takes_later (Err e) old new h = record {
   link = omega (arith, ap (λ (z : Numbers). z.link) h.others);
   taken = omega (arith, h.counted.0);
   closings = omega (arith, h.counted.1);
+  attached = ap (λ (z : Numbers). z.attached) h.others;
 }
 
 opens_so : (result : Turned) (role : Role) (n m : State) (old mid new : Told) {E : Type 0} → Takes {E = E} (Ok takens.Opened) old mid → Serves result role (open_input mid.link) (calm n) m mid new
@@ -415,11 +419,11 @@ turns_opened result role n k m old mid new taken e runs same takes h =
     opened_turns result role n m old mid new runs (subst (λ z. Takes z old mid) e takes) (subst (λ z. Serves result role (open_input mid.link) z m mid new) same h)
 
 pub turns_closed : (role : Role) (n m : State) (old new : Told) {E : Type 0} → n.halted ≡ false → m ≡ calm n → Takes {E = E} (Ok takens.Closed) old new → Turns turneds.Closed role n m old new
-turns_closed role n m old new runs same takes = (runs, record { same = same; still = takes.still }, takes.counts.counted.0.at_least, λ l is. (takes.told l is).2.0)
+turns_closed role n m old new runs same takes = (runs, record { same = same; still = takes.still; attached = ap (λ (z : Numbers). z.attached) takes.counts.others }, takes.counts.counted.0.at_least, λ l is. (takes.told l is).2.0)
 
 pub turns_down : {E : Type 0} (e : E) (role : Role) (n m : State) (old new : Told) → n.halted ≡ false → m ≡ calm n → Takes (Err e) old new → Turns turneds.LinkDown role n m old new
-turns_down e role n m old new runs same takes = (runs, record { same = same; still = takes.still }, takes.counts.cause.failed, ap (λ (z : Numbers). z.arming) takes.counts.others)
+turns_down e role n m old new runs same takes = (runs, record { same = same; still = takes.still; attached = ap (λ (z : Numbers). z.attached) takes.counts.others }, takes.counts.cause.failed, ap (λ (z : Numbers). z.arming) takes.counts.others)
 
 pub turns_halted : (role : Role) (n m : State) (old : Told) → n.halted ≡ true → m ≡ calm n → Turns turneds.Halted role n m old old
 turns_halted role n m old halted same =
-    inl (halted, record { same = same; still = record { files = refl; images = λ c now. now; calls = refl; time = record { adds = λ l c past. inl past; keeps = λ l c past. past } } })
+    inl (halted, record { same = same; still = record { files = refl; images = λ c now. now; calls = refl; time = record { adds = λ l c past. inl past; keeps = λ l c past. past } }; attached = refl })

@@ -100,7 +100,8 @@ abbrev pub kept_behind : Known → List TurnStep → Known
 kept_behind k [] = k
 kept_behind k (s ∷ ss) = kept_behind (kept_by (if_landed s.landed s.entry) k) ss
 
--- no count falls; those of connections are counted as far as 2^64 - 1; and what the machine was told stays
+-- no count falls; those of connections are counted as far as 2^64 - 1; and what the machine was told stays, and the names by which it
+-- was attached
 pub record NoLess (old new : Numbers) : Type 0 where
   pub arming : new.arming ≡ old.arming
   pub disk : old.disk ≤ new.disk
@@ -110,6 +111,7 @@ pub record NoLess (old new : Numbers) : Type 0 where
   pub link : old.link ≤ new.link
   pub taken : capped old.taken ≤ new.taken
   pub closings : capped old.closings ≤ new.closings
+  pub attached : new.attached ≡ old.attached
 
 -- Steps that were done one after the other, behind what was sent before the first. Behind them stands their book, and
 -- their effects came.

@@ -1,5 +1,5 @@
 -- What the bytes of a connection ask of a node (RFC 9110, section 15.5; SOAP 1.1, section 6; WS-Addressing 1.0 Core, section 3).
-use Rattle.std.specs.Prelude.{ℕ, List, [], ◌∷◌, ◌≡◌, Option, Some, None, Bool, true, false, Result, Ok, Err, IsTrue, codes}
+use Rattle.std.specs.Prelude.{ℕ, List, [], ◌∷◌, ◌≡◌, ◌<◌, length, Option, Some, None, Bool, true, false, Result, Ok, Err, IsTrue, codes}
 use Rattle.at_base.specs.declared.event.Event.{Event}
 use Rattle.at_base.specs.declared.event.Event.TheVariants as events
 use Rattle.arrivals.specs.BookArrivals.{reaches}
@@ -24,7 +24,7 @@ pub data Meaning : Type 0 where
   Steps : (event : Event) → Meaning
   -- the connection failed before a request was there
   Lost : Meaning
-  -- there was no memory to read it
+  -- something came, and there was no memory to read it
   Unread : Meaning
 
 -- the path that asks for what is due
@@ -67,7 +67,7 @@ Hears role None meaning = Unit {0}
 Hears role (Some input) (Refused status text) = Means role input (Refused status text)
 Hears role (Some input) (Steps event) = Means role input (Steps event)
 Hears role (Some input) Lost = Unit {0}
-Hears role (Some input) Unread = Unit {0}
+Hears role (Some input) Unread = 0 < length input
 
 -- what the connection that is opened next brings
 abbrev pub first_of : List (List ℕ) → Option (List ℕ)

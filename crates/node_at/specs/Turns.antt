@@ -162,10 +162,11 @@ pub record Opens (result : Turned) (role : Role) (n m : State) (old new : Told) 
   pub serves : Serves result role (next_input old.link) (calm n) m old new
   pub taken : Rose old.counts.taken new.counts.taken
 
--- nothing was sent or appended, and the node is as before
+-- nothing was sent, appended or attached, and the node is as before
 pub record Rests (n m : State) (old new : Told) : Type 0 where
   pub same : m ≡ calm n
   pub still : Still old new
+  pub attached : new.counts.attached ≡ old.counts.attached
 
 -- it is told of no connection that waits
 abbrev pub NoneWait : Told → Type 0

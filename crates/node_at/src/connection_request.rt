@@ -32,7 +32,7 @@ pub enum Asked {
     Steps(Event),
     /// The connection failed.
     Lost,
-    /// There was no memory to read it.
+    /// Something came, and there was no memory to read it.
     Unread,
 }
 
@@ -111,7 +111,7 @@ fn said(alloc: Global, role: Role, path: &str, body: &[u8]) -> Result<Asked, All
 }
 
 /// Reads a request of the connection that is open, and what it asks of a node of this role.
-#[tactic(auto, using(crate::proofs::HeardRequests::fault_heard, crate::proofs::HeardRequests::request_heard, crate::proofs::HeardRequests::line_request, crate::proofs::HeardRequests::line_fault, crate::proofs::HeardRequests::fit_fault, crate::proofs::HeardRequests::lost_by, crate::proofs::HeardRequests::received_by, crate::proofs::Turns::no_less_heard, crate::proofs::HeardRequests::not_lost))]
+#[tactic(auto, using(crate::proofs::HeardRequests::fault_heard, crate::proofs::HeardRequests::request_heard, crate::proofs::HeardRequests::unread_so, crate::proofs::HeardRequests::line_request, crate::proofs::HeardRequests::line_fault, crate::proofs::HeardRequests::fit_fault, crate::proofs::HeardRequests::lost_by, crate::proofs::HeardRequests::received_by, crate::proofs::Turns::no_less_heard, crate::proofs::HeardRequests::not_lost))]
 pub fn read<S: Site>(alloc: Global, site: &mut S, role: Role) -> Asked
     ensures hears { Hears role (open_input (S.told site.old).link) (meaning_of result) }
     ensures fit { IsFit (meaning_of result) }

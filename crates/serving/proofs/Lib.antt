@@ -2,3 +2,5 @@ pub mod Places
 pub mod Sessions
 pub mod StartLines
 pub mod Since
+mod Texts
+pub mod AttachedNames

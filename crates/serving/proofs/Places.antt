@@ -53,10 +53,6 @@ around place turns all h =
     sym (append_assoc (take place (all ++ replicate turns Wait)) (line_at place all ∷ []) (drop (suc place) (all ++ replicate turns Wait)))
     ∙ (ap (λ xs. xs ++ drop (suc place) (all ++ replicate turns Wait)) (sym (next_line place turns all h)) ∙ take-append-drop (suc place) (all ++ replicate turns Wait))
 
--- and those that are left
-pub rest_of : (place turns : ℕ) (all : List InitiatorLine) → take place (all ++ replicate turns Wait) ++ drop place (all ++ replicate turns Wait) ≡ all ++ replicate turns Wait
-rest_of place turns all = take-append-drop place (all ++ replicate turns Wait)
-
 pub all_taken : {A : Type 0} (n : ℕ) (xs : List A) → length xs ≤ n → take n xs ≡ xs
 all_taken zero [] h = refl
 all_taken (suc n) [] h = refl

@@ -1,5 +1,5 @@
 -- A session, line by line.
-use Rattle.std.proofs.Common.{ℕ, suc, List, [], ◌∷◌, ◌++◌, ◌≡◌, ◌≤◌, ◌<◌, ◌+◌, take, drop, length, Bool, Option, Some, None, inl, inr, ap, sym, ◌∙◌, subst, arith, refl}
+use Rattle.std.proofs.Common.{ℕ, suc, List, [], ◌∷◌, ◌++◌, ◌≡◌, ◌≤◌, ◌<◌, ◌⊎◌, ◌+◌, take, drop, length, Bool, true, Option, Some, None, inl, inr, ap, sym, ◌∙◌, subst, arith, refl}
 use Rattle.std.specs.Prelude.{replicate}
 use Rattle.std.specs.Io.KnownBytes.{Appends}
 use Rattle.std.proofs.lemmas.List.{append-nil, append_assoc, length-append, length-replicate}
@@ -21,15 +21,15 @@ use Rattle.schedules.specs.declared.initiator_line.InitiatorLine.TheVariants as 
 use Rattle.site_model.specs.Counts.{Rose}
 use Rattle.site_model.specs.Told.{Told}
 use Rattle.serving.specs.Requests.{adds, ended_by, printed, request_of}
-use Rattle.serving.specs.Runs.{Attends, Does, IsCut, IsTold, Prints, Row}
-use Rattle.serving.specs.Sessions.{Cut, Finishes, Goes, Idles, Takes, added, line_at, makes}
+use Rattle.serving.specs.Runs.{Attends, Does, IsCut, IsOpen, IsTold, IsWanting, Prints, Row}
+use Rattle.serving.specs.Sessions.{Cut, Finishes, Goes, Idles, Short, Takes, Whole, added, line_at, makes}
 use Rattle.serving.specs.declared.answer.Answer.{Answer}
 use Rattle.serving.specs.declared.answer.Answer.TheVariants as answers
 use Rattle.serving.specs.declared.service_end.Ended.{Ended}
 use Rattle.serving.specs.declared.service_end.Ended.TheVariants as endings
 use Rattle.serving.specs.declared.request.Request.{Request}
 use Rattle.serving.specs.declared.request.Request.TheVariants as requests
-use Rattle.serving.proofs.Places.{all_taken, around, rest_of, taken}
+use Rattle.serving.proofs.Places.{all_taken, around, taken}
 
 pub asks : {S : Type 0} (told : S → Told) (role : Role) (r : Request) (l : Local) (a : Locally) (n m : State) (s t : S) → r ≡ requests.Local l → Asked a n m l (told s) (told t)
     → ((why : Refusal) → a ≡ locally.Refused why → t ≡ s) → Keeping (told s) (told t) → Does told role r (answers.Local a) n m s t
@@ -66,6 +66,10 @@ partly said text x y e h = subst (λ v. Cut v x y) e h
 pub wholly : (said text : List ℕ) (x y : Option (List ℕ)) → said ≡ text → Appends x y said → Appends x y text
 wholly said text x y e h = subst (λ v. Appends x y v) e h
 
+-- nothing of a text that isn't empty
+pub unprinted : (answer : Answer) (text : List ℕ) (x : Option (List ℕ)) → 0 < length text → Finishes (Some endings.NoMemory) answer text x x
+unprinted answer text x some = inr (0, (some, appends_nothing x))
+
 -- what becomes of an answer whose text was printed
 finishes : (e : Option Ended) (answer : Answer) (text : List ℕ) (x y : Option (List ℕ)) → ended_by answer ≡ e → Appends x y text → Finishes e answer text x y
 finishes None answer text x y e h = (e, h)
@@ -75,7 +79,7 @@ finishes (Some endings.DiskFailed) answer text x y e h = (e, h)
 finishes (Some endings.Halted) answer text x y e h = (e, h)
 finishes (Some endings.BadJournal) answer text x y e h = (e, h)
 finishes (Some endings.ListenerFailed) answer text x y e h = (e, h)
-finishes (Some endings.NoMemory) answer text x y e h = all_of_it text x y h
+finishes (Some endings.NoMemory) answer text x y e h = inl (e, h)
 finishes (Some endings.Spent) answer text x y e h = (e, h)
 finishes (Some endings.Full) answer text x y e h = (e, h)
 
@@ -90,17 +94,21 @@ adds_made (lines.Commit activity) answer = refl
 adds_made (lines.Rollback activity) answer = refl
 adds_made lines.Wait answer = refl
 
+-- room stays
+pub room_kept : (b : Bool) (xs ys : List (Option Numbers)) (room now : ℕ) → ys ≡ xs → now ≡ room → (b ≡ true → length xs + 1 ≤ room) → b ≡ true → length ys + 1 ≤ now
+room_kept b xs ys room now e f h is = omega (arith, h is, ap length e, f)
+
 module _ {S : Type 0} (told : S → Told) (role : Role) (line : InitiatorLine) where
-  pub takes : (result : Option Ended) (answer : Answer) (r : Request) (b : Bool) (made made' later : List (Option Numbers)) (n m k : State) (s t : S) (x y : Option (List ℕ))
-      → r ≡ request_of made line → b ≡ makes line → Does told role r answer n m s t → made' ≡ made → k ≡ m → Finishes result answer (printed answer m.effects) x y
+  pub takes : (result : Option Ended) (answer : Answer) (r : Request) (b : Bool) (made roomy made' later : List (Option Numbers)) (n m k : State) (s t : S) (x y : Option (List ℕ))
+      → r ≡ request_of made line → b ≡ makes line → roomy ≡ made → Does told role r answer n m s t → made' ≡ roomy → k ≡ m → Finishes result answer (printed answer m.effects) x y
       → (result ≡ None → later ≡ made' ++ added b answer) → Takes told role line result made later n k s t x y
-  takes result answer r b made made' later n m k s t x y e f does same g finishes more =
+  takes result answer r b made roomy made' later n m k s t x y e f roomed does same g finishes more =
       subst (λ (z : State). Takes told role line result made later n z s t x y) (sym g)
       (inl (record {
         answer = answer;
         does = subst (λ z. Does told role z answer n m s t) e does;
         finishes = finishes;
-        grown = λ h. more h ∙ (ap (λ z. z ++ added b answer) same ∙ ap (λ z. made ++ z) (ap (λ z. added z answer) f ∙ adds_made line answer));
+        grown = λ h. more h ∙ (ap (λ z. z ++ added b answer) (same ∙ roomed) ∙ ap (λ z. made ++ z) (ap (λ z. added z answer) f ∙ adds_made line answer));
       }))
 
   pub idles : (result : Option Ended) (made later : List (Option Numbers)) (n m : State) (s t : S) (x y : Option (List ℕ))
@@ -168,19 +176,22 @@ module _ {S : Type 0} (told : S → Told) (role : Role) (all : List InitiatorLin
         subst (λ v. Prints (Attends told role lines_in n s v) endings.NoMemory x z) (sym i.site)
         (subst (λ v. Prints (Attends told role lines_in n s t) endings.NoMemory x v) (sym i.sink)
         (record {
-          text = h.text;
-          ended = None;
-          is = Attends.some (drop place lines_in) h.row (rest_of place turned all);
-          count = length h.text;
-          within = omega arith;
-          printed = subst (λ v. Appends x y v) (sym (take-length h.text)) h.printed;
+          cut = record {
+            text = h.text;
+            ended = None;
+            is = Attends.some asked (drop (suc place) lines_in) h.row (around place turned all less);
+            count = length h.text;
+            within = omega arith;
+            printed = subst (λ v. Appends x y v) (sym (take-length h.text)) h.printed;
+          };
+          wanting = inl tt;
         }))
 
     ends : (h : SoFar told role (take place lines_in) made n m s t x y) → (answer : Answer) (e : Option Ended) → Does told role (request_of made asked) answer m k t u → ended_by answer ≡ e
         → Ends (h.text ++ printed answer k.effects) e
     ends h answer e d is = Attends.last asked (drop (suc place) lines_in) answer k h.row (around place turned all less) d is
 
-    cuts : SoFar told role (take place lines_in) made n m s t x y → (answer : Answer) → Does told role (request_of made asked) answer m k t u → Cut (printed answer k.effects) y z → IsCut Ends x z
+    abbrev cuts : SoFar told role (take place lines_in) made n m s t x y → (answer : Answer) → Does told role (request_of made asked) answer m k t u → Cut (printed answer k.effects) y z → IsCut Ends x z
     cuts h answer d (count, (within, cut)) = record {
       text = h.text ++ printed answer k.effects;
       ended = ended_by answer;
@@ -198,6 +209,14 @@ module _ {S : Type 0} (told : S → Told) (role : Role) (all : List InitiatorLin
       printed = appends_more x y z h.text (printed answer k.effects) h.printed all;
     }
 
+    wants : SoFar told role (take place lines_in) made n m s t x y → (answer : Answer) → Does told role (request_of made asked) answer m k t u
+        → Whole answer (Some endings.NoMemory) (printed answer k.effects) y z ⊎ Short (printed answer k.effects) y z → IsWanting Ends x z
+    wants h answer d (inl (is, all)) = record { cut = cuts h answer d (all_of_it (printed answer k.effects) y z all); wanting = inl (subst IsOpen (sym is) tt) }
+    wants h answer d (inr (count, (short, cut))) = record {
+      cut = cuts h answer d (count, (omega (arith, short), cut));
+      wanting = inr (omega (arith, short, length-append h.text (printed answer k.effects)));
+    }
+
     stops : SoFar told role (take place lines_in) made n m s t x y → (e : Ended) (answer : Answer) → Does told role (request_of made asked) answer m k t u
         → Finishes (Some e) answer (printed answer k.effects) y z → Prints Ends e x z
     stops h endings.Done answer d f = tells h answer endings.Done d f
@@ -206,7 +225,7 @@ module _ {S : Type 0} (told : S → Told) (role : Role) (all : List InitiatorLin
     stops h endings.Halted answer d f = tells h answer endings.Halted d f
     stops h endings.BadJournal answer d f = tells h answer endings.BadJournal d f
     stops h endings.ListenerFailed answer d f = tells h answer endings.ListenerFailed d f
-    stops h endings.NoMemory answer d f = cuts h answer d f
+    stops h endings.NoMemory answer d f = wants h answer d f
     stops h endings.Spent answer d f = tells h answer endings.Spent d f
     stops h endings.Full answer d f = tells h answer endings.Full d f
 

@@ -101,7 +101,7 @@ module _ {S : Type 0} (told : S → Told) where
 
     attends_lives : (all : List InitiatorLine) (new : S) (text : List ℕ) (ended : Option Ended) → Attends told role all n s new text ended
         → (m : State) × Lived n s m new × ((ended ≡ Some endings.Halted → ⊥) → m.halted ≡ false)
-    attends_lives all new text ended (Attends.some {m = m} {front = front} {made = made} {text = said} rest row e) =
+    attends_lives all new text ended (Attends.some {m = m} {front = front} {made = made} {text = said} line rest row e) =
         let (lived, runs) = row_lives front made said m new row in (m, lived, λ no_halt. runs)
     attends_lives all new text ended (Attends.whole {m = m} {made = made} {text = said} row) =
         let (lived, runs) = row_lives all made said m new row in (m, lived, λ no_halt. runs)

@@ -1,3 +1,4 @@
+pub mod AttachedNames
 pub mod Lines
 pub mod Requests
 pub mod Runs

@@ -1,5 +1,5 @@
 -- A node that serves: its journal is opened and its listener, it comes up, and then it does line after line.
-use Rattle.std.specs.Prelude.{ℕ, List, [], ◌∷◌, ◌++◌, ◌≡◌, ◌≤◌, Option, Some, None, Ok, Err, length, replicate, take}
+use Rattle.std.specs.Prelude.{ℕ, List, [], ◌∷◌, ◌++◌, ◌≡◌, ◌≤◌, ◌<◌, ◌⊎◌, Option, Some, None, Ok, Err, length, replicate, take}
 use Rattle.std.specs.Io.KnownBytes.{Appends}
 use Rattle.at_base.specs.Numbers.{Numbers}
 use Rattle.node_at.specs.Endings.{TakesTurn}
@@ -45,9 +45,9 @@ pub data Row {S : Type 0} (told : S → Told) (role : Role) (n : State) (s : S) 
 
 -- How far a node that came up has come with its lines, what is printed of that, and how it ended, where it did.
 pub data Attends {S : Type 0} (told : S → Told) (role : Role) (all : List InitiatorLine) (n : State) (s new : S) : List ℕ → Option Ended → Type 0 where
-  -- it did some of them
-  some : {m : State} {front : List InitiatorLine} {made : List (Option Numbers)} {text : List ℕ} (rest : List InitiatorLine)
-      → Row told role n s front made text m new → front ++ rest ≡ all → Attends told role all n s new text None
+  -- it did some of them, but not all
+  some : {m : State} {front : List InitiatorLine} {made : List (Option Numbers)} {text : List ℕ} (line : InitiatorLine) (rest : List InitiatorLine)
+      → Row told role n s front made text m new → front ++ line ∷ rest ≡ all → Attends told role all n s new text None
   -- it did them all
   whole : {m : State} {made : List (Option Numbers)} {text : List ℕ} → Row told role n s all made text m new → Attends told role all n s new text (Some endings.Done)
   -- it came to an end with one of them
@@ -56,9 +56,12 @@ pub data Attends {S : Type 0} (told : S → Told) (role : Role) (all : List Init
       → Row told role n s front made text m t → front ++ line ∷ rest ≡ all → Does told role (request_of made line) answer m k t new → ended_by answer ≡ ended
       → Attends told role all n s new (text ++ printed answer k.effects) ended
 
--- What is to be served: at this base, with a journal of at most so many bytes a file, with these lines before so many turns.
+-- What is to be served: at this base, with a journal of this name and a listener at this address, with at most so many bytes a file, with
+-- these lines before so many turns.
 pub record Serviced : Type 0 where
   pub base : List ℕ
+  pub journal : List ℕ
+  pub listen : List ℕ
   pub role : Role
   pub limit : ℕ
   pub lines : List InitiatorLine
@@ -68,10 +71,10 @@ pub record Serviced : Type 0 where
 abbrev pub all_lines : Serviced → List InitiatorLine
 all_lines v = v.lines ++ replicate v.turns lines.Wait
 
--- the node came up, on a machine whose files and listener were opened
+-- the node came up, on a machine whose files and listener were opened, by the names of what is to be served
 pub record IsUp {S : Type 0} (told : S → Told) (v : Serviced) (n : State) (old new : S) : Type 0 where
   pub opened : S
-  pub attaches : Attaches {T = Unit {0}} (Ok tt) (told old) (told opened)
+  pub attaches : Attaches {T = Unit {0}} v.journal v.listen (Ok tt) (told old) (told opened)
   pub starts : IsStarted v.base v.limit n (told opened) (told new)
 
 abbrev pub attach_ended : AttachFailed → Ended
@@ -92,11 +95,11 @@ pub data Comes {S : Type 0} (told : S → Told) (role : Role) (all : List Initia
 -- How far serving has come, what is printed of that, and how it ended, where it did.
 pub data Course {S : Type 0} (told : S → Told) (v : Serviced) (old new : S) : List ℕ → Option Ended → Type 0 where
   -- files or listener couldn't be opened
-  unopened : (why : AttachFailed) → Attaches {T = Unit {0}} (Err why) (told old) (told new) → Course told v old new [] (Some (attach_ended why))
+  unopened : (why : AttachFailed) → Attaches {T = Unit {0}} v.journal v.listen (Err why) (told old) (told new) → Course told v old new [] (Some (attach_ended why))
   -- they were
-  opened : Attaches {T = Unit {0}} (Ok tt) (told old) (told new) → Course told v old new [] None
+  opened : Attaches {T = Unit {0}} v.journal v.listen (Ok tt) (told old) (told new) → Course told v old new [] None
   -- the node couldn't start
-  unstarted : (opened : S) (fault : StartFault) → Attaches {T = Unit {0}} (Ok tt) (told old) (told opened)
+  unstarted : (opened : S) (fault : StartFault) → Attaches {T = Unit {0}} v.journal v.listen (Ok tt) (told old) (told opened)
       → CannotStart fault v.limit (told opened) (told new) → Course told v old new (fault_text fault) (Some (start_ended fault))
   -- it came up, and attends to its lines
   up : {n : State} {s : S} {text : List ℕ} {ended : Option Ended} → IsUp told v n old s → Comes told v.role (all_lines v) n s new text ended
@@ -117,9 +120,21 @@ pub record IsTold (P : List ℕ → Option Ended → Type 0) (ended : Ended) (be
   pub is : P text (Some ended)
   pub printed : Appends before after text
 
--- Want of memory and a sink that fails may end it anywhere; else it ends as it is said, and all is printed.
+-- there is more to do, or memory is wanted for it
+abbrev pub IsOpen : Option Ended → Type 0
+IsOpen None = Unit {0}
+IsOpen (Some endings.NoMemory) = Unit {0}
+IsOpen (Some other) = ⊥
+
+-- memory was wanted before all was done, or before all was printed
+pub record IsWanting (P : List ℕ → Option Ended → Type 0) (before after : Option (List ℕ)) : Type 0 where
+  pub cut : IsCut P before after
+  pub wanting : IsOpen cut.ended ⊎ (cut.count < length cut.text)
+
+-- A sink that fails may end it anywhere, and want of memory where there is more to do or to print; else it ends as it is said, and all is
+-- printed.
 abbrev pub Prints : (List ℕ → Option Ended → Type 0) → Ended → Option (List ℕ) → Option (List ℕ) → Type 0
-Prints P endings.NoMemory before after = IsCut P before after
+Prints P endings.NoMemory before after = IsWanting P before after
 Prints P endings.SinkFailed before after = IsCut P before after
 Prints P endings.Done before after = IsTold P endings.Done before after
 Prints P endings.DiskFailed before after = IsTold P endings.DiskFailed before after

@@ -1,5 +1,5 @@
 -- One line of a session, in the code's words.
-use Rattle.std.specs.Prelude.{ℕ, List, [], ◌∷◌, ◌++◌, ◌≡◌, ◌≤◌, ◌⊎◌, Bool, true, false, Option, Some, None, length, take, zero, suc}
+use Rattle.std.specs.Prelude.{ℕ, List, [], ◌∷◌, ◌++◌, ◌≡◌, ◌≤◌, ◌<◌, ◌⊎◌, Bool, true, false, Option, Some, None, length, take, zero, suc}
 use Rattle.std.specs.Io.KnownBytes.{Appends}
 use Rattle.at_base.specs.Numbers.{Numbers}
 use Rattle.node_at.specs.State.{State}
@@ -36,6 +36,10 @@ added false answer = []
 abbrev pub Cut : List ℕ → Option (List ℕ) → Option (List ℕ) → Type 0
 Cut text before after = (count : ℕ) × ((count ≤ length text) × Appends before after (take count text))
 
+-- less than all of it was
+abbrev pub Short : List ℕ → Option (List ℕ) → Option (List ℕ) → Type 0
+Short text before after = (count : ℕ) × ((count < length text) × Appends before after (take count text))
+
 -- it was printed, and this is how it ends behind it
 abbrev pub Whole : Answer → Option Ended → List ℕ → Option (List ℕ) → Option (List ℕ) → Type 0
 Whole answer ended text before after = (ended_by answer ≡ ended) × Appends before after text
@@ -43,7 +47,7 @@ Whole answer ended text before after = (ended_by answer ≡ ended) × Appends be
 -- what became of what an answer prints
 abbrev pub Finishes : Option Ended → Answer → List ℕ → Option (List ℕ) → Option (List ℕ) → Type 0
 Finishes None answer text before after = Whole answer None text before after
-Finishes (Some endings.NoMemory) answer text before after = Cut text before after
+Finishes (Some endings.NoMemory) answer text before after = Whole answer (Some endings.NoMemory) text before after ⊎ Short text before after
 Finishes (Some endings.SinkFailed) answer text before after = Cut text before after
 Finishes (Some endings.Done) answer text before after = Whole answer (Some endings.Done) text before after
 Finishes (Some endings.DiskFailed) answer text before after = Whole answer (Some endings.DiskFailed) text before after
@@ -71,6 +75,6 @@ abbrev pub Takes : {S : Type 0} → (S → Told) → Role → InitiatorLine → 
 Takes told role line result made later n m s t before after =
     Goes told role line result made later n m s t before after ⊎ Idles result n m s t before after
 
--- a text was printed, and it ends so; or a beginning of it
+-- a text was printed, and it ends so; or a beginning of it, not all where memory was wanted
 abbrev pub Tells : List ℕ → Ended → Ended → Option (List ℕ) → Option (List ℕ) → Type 0
-Tells text ended result before after = ((result ≡ ended) × Appends before after text) ⊎ (((result ≡ endings.NoMemory) ⊎ (result ≡ endings.SinkFailed)) × Cut text before after)
+Tells text ended result before after = ((result ≡ ended) × Appends before after text) ⊎ (((result ≡ endings.NoMemory) × Short text before after) ⊎ ((result ≡ endings.SinkFailed) × Cut text before after))

@@ -1,5 +1,6 @@
-//! A law of nodes that serve.
+//! Laws of nodes that serve.
 
+ghost use Rattle.serving.specs.AttachedNames.{AttachesItsNames};
 ghost use Rattle.serving.specs.Since.{ServesStepByStep};
 
 use node_worlds::lives::steps_are_prefixed;
@@ -12,3 +13,9 @@ pub fn serves_step_by_step<S: Site>()
 {
     steps_are_prefixed::<S>();
 }
+
+/// The machine of a node that serves is attached once, by the names of the journal and the address that are to be served and by no others,
+/// or not at all where its files or its listener couldn't be opened.
+pub fn attaches_its_names<S: Site>()
+    ensures { AttachesItsNames S.told }
+{}

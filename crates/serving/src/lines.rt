@@ -1,6 +1,6 @@
 //! The lines that are printed.
 
-ghost use Rattle.std.specs.Prelude.{◌≡◌, ◌++◌, IfOk, OnOk, string_bytes};
+ghost use Rattle.std.specs.Prelude.{◌≡◌, ◌++◌, ◌<◌, IfOk, OnErr, OnOk, length, string_bytes};
 ghost use Rattle.serving.specs.Lines.{effect_line, effect_lines, fault_text, item_line, leaf_words, refused_line, up_line};
 ghost use Rattle.serving.specs.Requests.{printed};
 
@@ -74,21 +74,37 @@ fn refused_line(alloc: Global, word: &str) -> Result<String, AllocError>
     format!(in alloc; "refused {word}\n")
 }
 
-/// What is printed of an answer and of the effects that it came with.
+/// What effects print, where there is one.
+#[tactic(auto, using(crate::proofs::Texts::lines_some))]
+fn effects_printed(alloc: Global, effects: &[Effect]) -> Result<String, AllocError>
+    ensures is { IfOk result (λ text. string_bytes text ≡ effect_lines effects.now) }
+    ensures some { OnErr result (0 < length (effect_lines effects.now)) }
+{
+    if effects.len() > 0 {
+        effect_lines(alloc, effects)
+    } else {
+        Ok(String::new(alloc))
+    }
+}
+
+/// What is printed of an answer and of the effects that it came with. Memory is wanted only for something.
+#[tactic(auto, using(crate::proofs::Texts::refused_some))]
 pub fn printed(alloc: Global, answer: &Answer, effects: &[Effect]) -> Result<String, AllocError>
-    ensures { IfOk result (λ text. string_bytes text ≡ printed answer.now effects.now) }
+    ensures is { IfOk result (λ text. string_bytes text ≡ printed answer.now effects.now) }
+    ensures some { OnErr result (0 < length (printed answer.now effects.now)) }
 {
     match answer {
         Answer::Local(Locally::Refused { why }) => refused_line(alloc, refusal_word(*why)),
         Answer::Stale => refused_line(alloc, "state"),
-        Answer::Local(_) | Answer::Turn(_) => effect_lines(alloc, effects),
+        Answer::Local(_) | Answer::Turn(_) => effects_printed(alloc, effects),
     }
 }
 
-/// What is printed where the node wasn't started.
-#[tactic(auto, unfolding(crate::specs::Lines::bad_line))]
+/// What is printed where the node wasn't started. Memory is wanted only for something.
+#[tactic(auto, using(crate::proofs::Texts::bad_some), unfolding(crate::specs::Lines::bad_line))]
 pub fn fault_text(alloc: Global, fault: &StartFault) -> Result<String, AllocError>
-    ensures { IfOk result (λ text. string_bytes text ≡ fault_text fault.now) }
+    ensures is { IfOk result (λ text. string_bytes text ≡ fault_text fault.now) }
+    ensures some { OnErr result (0 < length (fault_text fault.now)) }
 {
     match fault {
         StartFault::Bad { file: 0, place } => format!(in alloc; "bad journal at {}\n", *place),

@@ -1,6 +1,6 @@
 //! A node that is up, line after line.
 
-ghost use Rattle.std.specs.Prelude.{◌≡◌, ◌++◌, ◌≤◌, ◌+◌, [], Some, None, IfOk, OnOk, replicate};
+ghost use Rattle.std.specs.Prelude.{◌≡◌, ◌++◌, ◌≤◌, ◌+◌, [], Some, None, IfOk, OnOk, length, replicate, true, vec_capacity};
 ghost use Rattle.schedules.specs.declared.initiator_line.InitiatorLine.TheVariants.{Wait};
 ghost use Rattle.node_at.specs.State.{IsNode, seen};
 ghost use Rattle.site_model.specs.Counts.{Rose};
@@ -66,6 +66,17 @@ fn makes_at(lines: &[InitiatorLine], place: usize) -> bool
     }
 }
 
+/// Makes room for what a line makes.
+fn make_room(made: &mut Vec<Option<Id>>, makes: bool) -> Result<(), AllocError>
+    ensures same { made.new.items ≡ made.old.items }
+    ensures room { OnOk result (makes ≡ true → length made.new.items + 1 ≤ vec_capacity made.new) }
+{
+    if makes {
+        made.reserve(1)?;
+    }
+    Ok(())
+}
+
 impl Session {
     /// Does what a line asks.
     #[tactic(auto, using(crate::proofs::Sessions::asks, crate::proofs::Sessions::turns))]
@@ -75,6 +86,7 @@ impl Session {
         ensures node { IsNode (seen self.new.node) }
         ensures role { self.new.node.role ≡ self.old.node.role }
         ensures made { self.new.made.items ≡ self.old.made.items }
+        ensures room { vec_capacity self.new.made ≡ vec_capacity self.old.made }
     {
         match request {
             Request::Local(local) => Answer::Local(self.node.local(alloc, site, local)),
@@ -83,19 +95,17 @@ impl Session {
         }
     }
 
-    /// Keeps what was made.
-    fn keep(&mut self, makes: bool, answer: &Answer) -> Result<(), AllocError>
-        ensures made { OnOk result (self.new.made.items ≡ self.old.made.items ++ added makes answer.now) }
+    /// Keeps what was made, for which there is room.
+    fn keep(&mut self, makes: bool, answer: &Answer)
+        requires { makes ≡ true → length self.old.made.items + 1 ≤ vec_capacity self.old.made }
+        ensures made { self.new.made.items ≡ self.old.made.items ++ added makes answer.now }
         ensures node { (seen self.new.node ≡ seen self.old.node) × (self.new.node.role ≡ self.old.node.role) }
     {
-        if makes {
-            self.made.push(answer.made())?;
-        }
-        Ok(())
+        if makes && self.made.push(answer.made()).is_err() {}
     }
 
     /// Prints what an answer brought about, and says how serving ends behind it, where it does.
-    #[tactic(auto, using(crate::proofs::Sessions::finished, crate::proofs::Sessions::nothing, crate::proofs::Sessions::all_of_it))]
+    #[tactic(auto, using(crate::proofs::Sessions::finished, crate::proofs::Sessions::unprinted))]
     fn finish<K: Sink>(
         &mut self,
         alloc: Global,
@@ -103,6 +113,7 @@ impl Session {
         answer: &Answer,
         sink: &mut K,
     ) -> Option<Ended>
+        requires { makes ≡ true → length self.old.made.items + 1 ≤ vec_capacity self.old.made }
         ensures finishes { Finishes result answer.now (printed answer.now (seen self.old.node).effects) (K.contents sink.old) (K.contents sink.new) }
         ensures made { result ≡ None → self.new.made.items ≡ self.old.made.items ++ added makes answer.now }
         ensures node { (seen self.new.node ≡ seen self.old.node) × (self.new.node.role ≡ self.old.node.role) }
@@ -116,14 +127,12 @@ impl Session {
         if write_all(sink, text.as_bytes()).is_err() {
             return Some(Ended::SinkFailed);
         }
-        if self.keep(makes, answer).is_err() {
-            return Some(Ended::NoMemory);
-        }
+        self.keep(makes, answer);
         answer.ended()
     }
 
     /// Does the line of this place, and prints what it brought about. Says how serving ends behind it, where it does.
-    #[tactic(auto, using(crate::proofs::Sessions::takes, crate::proofs::Sessions::idles))]
+    #[tactic(auto, using(crate::proofs::Sessions::takes, crate::proofs::Sessions::idles, crate::proofs::Sessions::room_kept))]
     fn take_line<K: Sink, H: Site>(
         &mut self,
         alloc: Global,
@@ -143,8 +152,12 @@ impl Session {
             Ok(request) => request,
             Err(_) => return Some(Ended::NoMemory),
         };
+        let makes = makes_at(lines, place);
+        if make_room(&mut self.made, makes).is_err() {
+            return Some(Ended::NoMemory);
+        }
         let answer = self.answer(alloc, &request, site);
-        self.finish(alloc, makes_at(lines, place), &answer, sink)
+        self.finish(alloc, makes, &answer, sink)
     }
 
     /// Does line after line, and then so many turns, and prints what each brings about.
