@@ -1,3 +1,4 @@
 pub mod FollowedNets
 pub mod ReportedNets
 pub mod TellingReports
+mod AgreeingReports

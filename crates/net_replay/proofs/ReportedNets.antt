@@ -19,6 +19,9 @@ use Rattle.schedules.specs.declared.line.Line.{Line}
 use Rattle.net_replay.specs.MessageBytes.{shown}
 use Rattle.net_replay.specs.NetReports.{HasNoRoom, IsCourseOf, IsNetReport, TakesTooManyEvents}
 use Rattle.net_replay.specs.NetRuns.{IsNetFull, IsNetRun, MirrorsAt}
+use Rattle.model_laws.specs.Agreement.{IsAgreed}
+use Rattle.world_laws.specs.Moves.{ChangesByMoves}
+use Rattle.net_replay.proofs.AgreeingReports.{agreed_in_print}
 use Rattle.net_replay.proofs.TellingReports.{on_one_line, shown_tells}
 use Rattle.site_memory.specs.Sites.{told_of}
 
@@ -43,12 +46,22 @@ told tell closes options all c text net few of is mirrors =
     subst (λ t. Tells t c.world.happened) (sym is)
     (shown_tells options.bytes (map mail_of net.letters) (whole c) c.world.happened (subst (λ (x : Course). Tells (whole x) x.world.happened) (sym of.is) here))
 
-pub is_report : ReportsTell → StaysClosed told_of → ReportsAreSafe → (options : Options) (all : List Line) (c : Course) (text : List ℕ) (net : Seen)
+pub is_report : ChangesByMoves → ReportsTell → StaysClosed told_of → ReportsAreSafe → (options : Options) (all : List Line) (c : Course) (text : List ℕ) (net : Seen)
     → IsReplayable all → IsCourseOf options all c → text ≡ shown options.bytes (map mail_of net.letters) (whole c)
-    → IsNetRun (length c.world.nodes) c.world c.events c.raws c.met net → IsNetReport options all text net
-is_report tell closes safe options all c text net replayable of is run =
+    → length (map mail_of net.letters) < 2 ^ 64 → IsNetRun (length c.world.nodes) c.world c.events c.raws c.met net → IsNetReport options all text net
+is_report moves tell closes safe options all c text net replayable of is short run =
     let few : length c.world.nodes < 2 ^ 64 = omega (arith, nodes_are safe options all c replayable of, replayable.most) in
-    record { course = c; of = of; is = is; run = run; tells = told tell closes options all c text net few of is run.mirrors }
+    let same : length c.world.nodes ≡ nodes_of all = nodes_are safe options all c replayable of in
+    let tells : Tells text c.world.happened = told tell closes options all c text net few of is run.mirrors in
+    record {
+      course = c;
+      of = of;
+      is = is;
+      run = run;
+      tells = tells;
+      agrees = agreed_in_print moves closes options.settle options.bytes of.draws all c text net few same of.is is short run.mirrors tells
+          (subst (λ (x : Course). IsAgreed x.world) (sym of.is) (safe options.settle of.draws all replayable).agreed);
+    }
 
 pub has_no_room : (options : Options) (all : List Line) (c : Course) → IsCourseOf options all c → IsNetFull (length c.world.nodes) c.events c.raws c.met → HasNoRoom options all
 has_no_room options all c of full = record { course = c; of = of; full = full }

@@ -127,7 +127,7 @@ digit_unbroken i [] h = refl
 digit_unbroken zero (d ∷ ds) h = (neither (d == 10) (list_any (λ b. b == 10) ds) h).0
 digit_unbroken (suc i) (d ∷ ds) h = digit_unbroken i ds (neither (d == 10) (list_any (λ b. b == 10) ds) h).1
 
-hex_unbroken : (bytes : List ℕ) → IsUnbroken (encode_lower bytes)
+pub hex_unbroken : (bytes : List ℕ) → IsUnbroken (encode_lower bytes)
 unfolding encode_with
 hex_unbroken [] = refl
 hex_unbroken (b ∷ rest) = rw (digit_unbroken (b / 16) lower_digits refl, digit_unbroken (b % 16) lower_digits refl) (hex_unbroken rest)

@@ -1,6 +1,6 @@
 //! `replay`, over nodes that serve.
 
-ghost use Rattle.std.specs.Prelude.{◌≡◌, IfErr, IfOk, List, Option, map};
+ghost use Rattle.std.specs.Prelude.{◌≡◌, ◌<◌, ◌^◌, IfErr, IfOk, List, Option, length, map};
 ghost use Rattle.memory_net.specs.Mails.{mail_of};
 ghost use Rattle.mirrored_nets.specs.declared.fault.Fault.TheVariants as faults;
 ghost use Rattle.net_replay.specs.MessageBytes.{shown};
@@ -30,6 +30,7 @@ use reported_effects::reports_tell;
 use schedules::line::Schedule;
 use settlement::run_error::RunError;
 use site_memory::machine::MemSite;
+use world_laws::laws::changes_by_moves;
 use std::alloc::{AllocError, Global};
 
 /// A report, and the nodes that it is of, as they are at its end.
@@ -57,7 +58,8 @@ fn print(
     letters: &[Letter],
     bytes: bool,
 ) -> Result<Lines, AllocError>
-    ensures { IfOk result (λ lines. lines ≡ shown bytes (map mail_of letters.now) (whole course)) }
+    ensures is { IfOk result (λ lines. lines ≡ shown bytes (map mail_of letters.now) (whole course)) }
+    ensures few { IfOk result (λ lines. length (map mail_of letters.now) < 2 ^ 64) }
 {
     let report = course.whole(alloc)?;
     shown(alloc, report, letters, bytes)
@@ -84,6 +86,7 @@ fn with_nodes(alloc: Global, schedule: &Schedule, options: Options) -> Result<Re
     ensures full { IfErr result (λ e. e ≡ Full → HasNoRoom options schedule.now) }
     ensures many { IfErr result (λ e. e ≡ TooManyEvents → TakesTooManyEvents options schedule.now) }
 {
+    changes_by_moves();
     courses_are_possible();
     reports_are_safe();
     reports_tell();
@@ -105,7 +108,8 @@ fn with_nodes(alloc: Global, schedule: &Schedule, options: Options) -> Result<Re
 
 /// The report of a schedule, and its nodes: each was started on a machine in memory, and changed by turns and requests alone, as its lines say;
 /// what a message brought it are the bytes by which another had posted it. At the end they are the nodes of the report's world. The lines that begin
-/// with `root`, `sub`, `leaf` or `told` are, in order, those of what happened in that world.
+/// with `root`, `sub`, `leaf` or `told` are, in order, those of what happened in that world; and as one reads it off the printed lines alone, no two
+/// of one transaction end differently.
 /// No two participants of one transaction ended differently there, through any depth of interposition (`safe`; WS-AtomicTransaction 1.2, section 1).
 ///
 /// With `settle` the events that bring the world to rest happen behind the last line, and are reported as others are. Behind them

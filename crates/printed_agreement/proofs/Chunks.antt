@@ -59,7 +59,7 @@ reads_both a b xs ys h k = record {
   whole = subst (AllByRecursion IsUnbroken) (sym (map-append line_in xs ys)) (whole_both (map line_in xs) (map line_in ys) h.whole k.whole);
 }
 
-reads_one : (text : List ℕ) (e : Entry) → text ≡ with_end (line_in e) → IsUnbroken (line_in e) → Reads text (e ∷ [])
+pub reads_one : (text : List ℕ) (e : Entry) → text ≡ with_end (line_in e) → IsUnbroken (line_in e) → Reads text (e ∷ [])
 reads_one text e is whole = record { is = is ∙ sym (append-nil (with_end (line_in e))); whole = (whole, tt) }
 
 -- a line that is neither of a message nor of a delivery
@@ -68,7 +68,7 @@ pub record Quietly (text : List ℕ) : Type 0 where
   pub reads : Reads text (Quiet line ∷ [])
   pub quiet : IsQuiet line
 
-quietly : (text : List ℕ) (h : IsEnd text) → IsQuiet h.body → Quietly text
+pub quietly : (text : List ℕ) (h : IsEnd text) → IsQuiet h.body → Quietly text
 quietly text h q = record { line = h.body; reads = reads_one text (Quiet h.body) h.is h.whole; quiet = q }
 
 up_quiet : (n : ℕ) (s : Started) → Quietly (up_line n s)
