@@ -2,9 +2,11 @@
 use Rattle.std.specs.Prelude.{ℕ, List, Option, ◌≡◌, ◌≤◌, ◌<◌, ◌^◌, length, map}
 use Rattle.std.specs.List.{AllByRecursion}
 use Rattle.std.proofs.Common.{ap, arith, refl, subst, sym, ◌∙◌}
+use Rattle.std.proofs.lemmas.List.{length-map}
 use Rattle.at_model.specs.World.{example_hosts}
 use Rattle.memory_net.specs.Closed.{StaysClosed}
 use Rattle.memory_net.specs.Mails.{mail_of}
+use Rattle.memory_net.specs.declared.letter.Letter.{Letter}
 use Rattle.mirrored_nets.specs.Seen.{Seen}
 use Rattle.raw_requests.specs.declared.Drawn.{Drawn}
 use Rattle.replay_cmd.specs.EventCounts.{HasTooManyEvents}
@@ -45,6 +47,9 @@ told tell closes options all c text net few of is mirrors =
     tell options.settle of.draws all (subst (λ (x : Course). AllByRecursion IsOnOneLine x.world.posted) of.is posts) in
     subst (λ t. Tells t c.world.happened) (sym is)
     (shown_tells options.bytes (map mail_of net.letters) (whole c) c.world.happened (subst (λ (x : Course). Tells (whole x) x.world.happened) (sym of.is) here))
+
+pub few_mails : (ls : List Letter) → length ls < 2 ^ 64 → length (map mail_of ls) < 2 ^ 64
+few_mails ls few = subst (λ n. n < 2 ^ 64) (sym (length-map ls mail_of)) few
 
 pub is_report : ChangesByMoves → ReportsTell → StaysClosed told_of → ReportsAreSafe → (options : Options) (all : List Line) (c : Course) (text : List ℕ) (net : Seen)
     → IsReplayable all → IsCourseOf options all c → text ≡ shown options.bytes (map mail_of net.letters) (whole c)

@@ -30,8 +30,8 @@ use reported_effects::reports_tell;
 use schedules::line::Schedule;
 use settlement::run_error::RunError;
 use site_memory::machine::MemSite;
-use world_laws::laws::changes_by_moves;
 use std::alloc::{AllocError, Global};
+use world_laws::laws::changes_by_moves;
 
 /// A report, and the nodes that it is of, as they are at its end.
 #[derive(Drop)]
@@ -51,6 +51,14 @@ fn play(alloc: Global, schedule: &Schedule, options: Options) -> Result<Course, 
     Ok(course)
 }
 
+/// There are fewer letters than memory has bytes.
+#[tactic(auto, using(crate::proofs::ReportedNets::few_mails))]
+fn are_few(letters: &[Letter])
+    ensures { length (map mail_of letters.now) < 2 ^ 64 }
+{
+    let _count = letters.len();
+}
+
 /// What is printed of a course whose messages are these letters.
 fn print(
     alloc: Global,
@@ -61,6 +69,7 @@ fn print(
     ensures is { IfOk result (λ lines. lines ≡ shown bytes (map mail_of letters.now) (whole course)) }
     ensures few { IfOk result (λ lines. length (map mail_of letters.now) < 2 ^ 64) }
 {
+    are_few(letters);
     let report = course.whole(alloc)?;
     shown(alloc, report, letters, bytes)
 }
