@@ -1,11 +1,11 @@
-mod Texts
+pub mod Texts
 mod Answers
 mod Places
 mod Takings
 mod Entries
 mod Endings
 mod Deliveries
-mod Soundness
-mod Chunks
-mod Courses
-mod Reports
+pub mod Soundness
+pub mod Chunks
+pub mod Courses
+pub mod Reports
