@@ -21,7 +21,7 @@ use Rattle.schedules.specs.declared.initiator_line.InitiatorLine.TheVariants as 
 use Rattle.site_model.specs.Counts.{Rose}
 use Rattle.site_model.specs.Told.{Told}
 use Rattle.serving.specs.Requests.{adds, ended_by, printed, request_of}
-use Rattle.serving.specs.Runs.{Attends, Does, IsCut, IsOpen, IsTold, IsWanting, Prints, Row}
+use Rattle.serving.specs.Runs.{Attends, Does, IsCut, IsTold, IsWanting, Prints, Row}
 use Rattle.serving.specs.Sessions.{Cut, Finishes, Goes, Idles, Short, Takes, Whole, added, line_at, makes}
 use Rattle.serving.specs.declared.answer.Answer.{Answer}
 use Rattle.serving.specs.declared.answer.Answer.TheVariants as answers
@@ -167,6 +167,12 @@ module _ {S : Type 0} (told : S → Told) (role : Role) (all : List InitiatorLin
   abbrev Ends : List ℕ → Option Ended → Type 0
   Ends = Attends told role lines_in n s u
 
+  -- behind some of them there are more, or none
+  went : (front rest : List InitiatorLine) (made : List (Option Numbers)) (text : List ℕ) (m : State) → Row told role n s front made text m u → front ++ rest ≡ lines_in
+      → (ended : Option Ended) × Ends text ended
+  went front [] made text m row e = (Some endings.Done, Attends.whole (subst (λ v. Row told role n s v made text m u) (sym (append-nil front) ∙ e) row))
+  went front (next ∷ more) made text m row e = (None, Attends.some next more row e)
+
   module _ (place : ℕ) (less : place < length all + turned) (made later : List (Option Numbers)) (m k : State) (t : S) (x y z : Option (List ℕ)) where
     abbrev asked : InitiatorLine
     asked = line_at place all
@@ -187,31 +193,46 @@ module _ {S : Type 0} (told : S → Told) (role : Role) (all : List InitiatorLin
           wanting = inl tt;
         }))
 
-    ends : (h : SoFar told role (take place lines_in) made n m s t x y) → (answer : Answer) (e : Option Ended) → Does told role (request_of made asked) answer m k t u → ended_by answer ≡ e
-        → Ends (h.text ++ printed answer k.effects) e
+    ends : (h : SoFar told role (take place lines_in) made n m s t x y) → (answer : Answer) (e : Ended) → Does told role (request_of made asked) answer m k t u → ended_by answer ≡ Some e
+        → Ends (h.text ++ printed answer k.effects) (Some e)
     ends h answer e d is = Attends.last asked (drop (suc place) lines_in) answer k h.row (around place turned all less) d is
 
-    abbrev cuts : SoFar told role (take place lines_in) made n m s t x y → (answer : Answer) → Does told role (request_of made asked) answer m k t u → Cut (printed answer k.effects) y z → IsCut Ends x z
-    cuts h answer d (count, (within, cut)) = record {
+    -- how far it is with that answer
+    reached : (h : SoFar told role (take place lines_in) made n m s t x y) → (answer : Answer) (o : Option Ended) → Does told role (request_of made asked) answer m k t u → ended_by answer ≡ o
+        → (ended : Option Ended) × Ends (h.text ++ printed answer k.effects) ended
+    reached h answer None d is =
+        went (take place lines_in ++ asked ∷ []) (drop (suc place) lines_in) (made ++ adds asked answer) (h.text ++ printed answer k.effects) k (Row.more asked answer k u h.row d is)
+        (append_assoc (take place lines_in) (asked ∷ []) (drop (suc place) lines_in) ∙ around place turned all less)
+    reached h answer (Some e) d is = (Some e, ends h answer e d is)
+
+    abbrev cut_at : (h : SoFar told role (take place lines_in) made n m s t x y) → (answer : Answer) (ended : Option Ended) → Ends (h.text ++ printed answer k.effects) ended
+        → Cut (printed answer k.effects) y z → IsCut Ends x z
+    cut_at h answer ended is (count, (within, cut)) = record {
       text = h.text ++ printed answer k.effects;
-      ended = ended_by answer;
-      is = ends h answer (ended_by answer) d refl;
+      ended = ended;
+      is = is;
       count = length h.text + count;
       within = less_over h.text (printed answer k.effects) count within;
       printed = subst (λ v. Appends x z v) (sym (take-append-add h.text (printed answer k.effects) count)) (appends_more x y z h.text (take count (printed answer k.effects)) h.printed cut);
     }
 
+    abbrev cuts : SoFar told role (take place lines_in) made n m s t x y → (answer : Answer) → Does told role (request_of made asked) answer m k t u → Cut (printed answer k.effects) y z → IsCut Ends x z
+    cuts h answer d cut = let r = reached h answer (ended_by answer) d refl in cut_at h answer r.0 r.1 cut
+
     tells : SoFar told role (take place lines_in) made n m s t x y → (answer : Answer) (e : Ended) → Does told role (request_of made asked) answer m k t u
         → (ended_by answer ≡ Some e) × Appends y z (printed answer k.effects) → IsTold Ends e x z
     tells h answer e d (is, all) = record {
       text = h.text ++ printed answer k.effects;
-      is = ends h answer (Some e) d is;
+      is = ends h answer e d is;
       printed = appends_more x y z h.text (printed answer k.effects) h.printed all;
     }
 
     wants : SoFar told role (take place lines_in) made n m s t x y → (answer : Answer) → Does told role (request_of made asked) answer m k t u
         → Whole answer (Some endings.NoMemory) (printed answer k.effects) y z ⊎ Short (printed answer k.effects) y z → IsWanting Ends x z
-    wants h answer d (inl (is, all)) = record { cut = cuts h answer d (all_of_it (printed answer k.effects) y z all); wanting = inl (subst IsOpen (sym is) tt) }
+    wants h answer d (inl (is, all)) = record {
+      cut = cut_at h answer (Some endings.NoMemory) (ends h answer endings.NoMemory d is) (all_of_it (printed answer k.effects) y z all);
+      wanting = inl tt;
+    }
     wants h answer d (inr (count, (short, cut))) = record {
       cut = cuts h answer d (count, (omega (arith, short), cut));
       wanting = inr (omega (arith, short, length-append h.text (printed answer k.effects)));

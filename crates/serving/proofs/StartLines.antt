@@ -15,13 +15,13 @@ use Rattle.site_model.specs.declared.site.AttachFailed.{AttachFailed}
 use Rattle.site_model.specs.declared.site.AttachFailed.TheVariants as attaching
 use Rattle.serving.specs.Lines.{fault_text, up_line}
 use Rattle.serving.specs.Runs.{Attends, Comes, Course, IsCut, IsOpen, IsTold, IsUp, IsWanting, Prints, Row, Serviced, all_lines, attach_ended, start_ended}
-use Rattle.serving.specs.Sessions.{Cut, Short, Tells}
+use Rattle.serving.specs.Sessions.{Cut, Tells}
 use Rattle.serving.specs.declared.service_end.Ended.{Ended}
 use Rattle.serving.specs.declared.service_end.Ended.TheVariants as endings
 use Rattle.std.proofs.lemmas.List.{append-nil, length-append}
 use Rattle.std.proofs.Math.Seq.{take-append-add, take-length}
 use Rattle.serving.proofs.Texts.{up_some}
-use Rattle.serving.proofs.Sessions.{appends_more, appends_nothing, less_over, nothing, partly, wholly}
+use Rattle.serving.proofs.Sessions.{appends_more, appends_nothing, less_over, partly, wholly}
 
 -- why a node wasn't started
 

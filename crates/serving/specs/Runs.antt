@@ -51,10 +51,10 @@ pub data Attends {S : Type 0} (told : S → Told) (role : Role) (all : List Init
   -- it did them all
   whole : {m : State} {made : List (Option Numbers)} {text : List ℕ} → Row told role n s all made text m new → Attends told role all n s new text (Some endings.Done)
   -- it came to an end with one of them
-  last : {m : State} {t : S} {front : List InitiatorLine} {made : List (Option Numbers)} {text : List ℕ} {ended : Option Ended}
+  last : {m : State} {t : S} {front : List InitiatorLine} {made : List (Option Numbers)} {text : List ℕ} {ended : Ended}
       (line : InitiatorLine) (rest : List InitiatorLine) (answer : Answer) (k : State)
-      → Row told role n s front made text m t → front ++ line ∷ rest ≡ all → Does told role (request_of made line) answer m k t new → ended_by answer ≡ ended
-      → Attends told role all n s new (text ++ printed answer k.effects) ended
+      → Row told role n s front made text m t → front ++ line ∷ rest ≡ all → Does told role (request_of made line) answer m k t new → ended_by answer ≡ Some ended
+      → Attends told role all n s new (text ++ printed answer k.effects) (Some ended)
 
 -- What is to be served: at this base, with a journal of this name and a listener at this address, with at most so many bytes a file, with
 -- these lines before so many turns.
