@@ -219,8 +219,8 @@ turn_grew grows bodies turneds.NoRoom role n m s t sure keeps turn runs =
     ran_grew grows bodies v.made (w.steps ++ busy n.book w.steps) w.doings (calm n) m s t sure keeps (line_sends _ (is_heard v.meaning) (told_of s) (told_of t) v.made v.line)
     (busy_sends n.book w.steps (begun_send v.meaning v.now n.book w.steps w.begun)) w.ran
 turn_grew grows bodies turneds.Halted role n m s t sure keeps turn runs = absurd (runs refl)
-turn_grew grows bodies turneds.Closed role n m s t sure keeps turn runs = rests_grew bodies (calm n) m s t sure keeps (record { same = turn.1.same; still = turn.1.still })
-turn_grew grows bodies turneds.LinkDown role n m s t sure keeps turn runs = rests_grew bodies (calm n) m s t sure keeps (record { same = turn.1.same; still = turn.1.still })
+turn_grew grows bodies turneds.Closed role n m s t sure keeps turn runs = rests_grew bodies (calm n) m s t sure keeps (record { same = turn.1.same; still = turn.1.still; attached = turn.1.attached })
+turn_grew grows bodies turneds.LinkDown role n m s t sure keeps turn runs = rests_grew bodies (calm n) m s t sure keeps (record { same = turn.1.same; still = turn.1.still; attached = turn.1.attached })
 
 -- the step of a request
 landed_room : (landed : Bool) (entry : Option Record) (n : State) (bodies : List (List ℕ)) (first : List Made) (old new : Told) → IsFate landed entry n.journal first old new → n.journal.end ≡ length (frames bodies)
