@@ -3,8 +3,8 @@ use Rattle.std.specs.Vec.Iter.{into_iter_items}
 use Rattle.atx.proofs.TopCalls.{is_program}
 use Rattle.atx.proofs.top_call.program.Goals as goal
 
-pub returns-run : goal.returns-run
-returns-run g c = is_program g.S.Source.left g.S.Source.given g.S.Source.faults g.K.Sink.contents g.K.Sink.faults g.H.Site.told string_bytes (into_iter_items c.args.args) c.in-Ok.words.items _ _ _ _ _ _ _ c.in-Ok.ensures (record {
+pub returns : goal.returns
+returns g c = is_program g.S.Source.left g.S.Source.given g.S.Source.faults g.K.Sink.contents g.K.Sink.faults g.H.Site.told string_bytes (into_iter_items c.args.args) c.in-Ok.words.items _ _ _ _ _ _ _ c.in-Ok.ensures (record {
   statuses = c.run.ensures.statuses;
   faulty_words = c.run.ensures.words;
   faulty = c.run.ensures.faulty;
