@@ -1,5 +1,5 @@
 -- The calls of the system, each with its arguments and its answer.
-use Rattle.std.specs.Prelude.{ℕ, ℤ, Bool, List, Option, Result, Ok, Err, ◌∷◌, take, option_map}
+use Rattle.std.specs.Prelude.{ℕ, ℤ, Bool, List, Option, Result, Ok, Err, ◌∷◌, take, option_map, ◌+◌, []}
 use Rattle.std.specs.declared.net.SocketAddr.{SocketAddr}
 use Rattle.std.specs.declared.time.Duration.{Duration}
 use Rattle.libc.specs.declared.types.pollfd.{pollfd}
@@ -53,6 +53,17 @@ pub data Call : Type 0 where
   -- the clock that never goes back
   Monotonic : (got : Answer Duration) → Call
 
--- one call more, where the calls are told. The latest is the first of the list
-abbrev pub then : Call → Option (List Call) → Option (List Call)
+-- all calls so far, where they are told. The latest is the first of the list
+abbrev pub Calls : Type 0
+Calls = Option (List Call)
+
+-- one call more
+abbrev pub then : Call → Calls → Calls
 then call calls = option_map (λ l. call ∷ l) calls
+
+-- how often a byte of a file was asked for or written
+abbrev pub moves : List Call → ℕ
+moves [] = 0
+moves (ReadAt file at got ∷ before) = moves before + 1
+moves (WriteAt file at bytes got ∷ before) = moves before + 1
+moves (_ ∷ before) = moves before
