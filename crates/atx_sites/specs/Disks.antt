@@ -1,5 +1,6 @@
 -- What is known of a journal's two files, and of a machine with them and no network.
-use Rattle.std.specs.Prelude.{ℕ, Bool, Option, Result, Some, None, Ok, Err, zero, suc, true, ◌≡◌, ◌+◌}
+use Rattle.std.specs.Prelude.{ℕ, List, Bool, Option, Result, Some, None, Ok, Err, zero, suc, true, ◌≡◌, ◌+◌}
+use Rattle.site_model.specs.Attachments.{Names}
 use Rattle.site_model.specs.Counts.{capped}
 use Rattle.site_model.specs.Told.{Told, silent}
 use Rattle.atx_sites.specs.declared.disk.Disk.{Disk}
@@ -23,7 +24,7 @@ abbrev pub Tallied : {T E : Type 0} → ℕ → ℕ → Result T E → Type 0
 Tallied before now (Ok x) = now ≡ before
 Tallied before now (Err e) = now ≡ capped (before + 1)
 
--- what such a machine tells: its counts
-abbrev pub told_of : Disk → ℕ → ℕ → ℕ → Told
-told_of disk accept receive link =
-    silent (record { arming = None; disk = disk.disk; gate = disk.gate; accept = accept; receive = receive; link = link; taken = 0; closings = 0 })
+-- what such a machine tells: its counts, and by which names it was attached
+abbrev pub told_of : Disk → ℕ → ℕ → ℕ → List Names → Told
+told_of disk accept receive link names =
+    silent (record { arming = None; disk = disk.disk; gate = disk.gate; accept = accept; receive = receive; link = link; taken = 0; closings = 0; attached = names })

@@ -1,6 +1,6 @@
 //! A machine with files and no network.
 
-ghost use Rattle.std.specs.Prelude.{◌≡◌, ◌≤◌, ◌<◌, true, false, length, take, drop, None, IfOk, IsErr, OnOk, OnErr};
+ghost use Rattle.std.specs.Prelude.{◌≡◌, ◌≤◌, ◌<◌, [], true, false, length, take, drop, None, IfOk, IsErr, OnOk, OnErr};
 ghost use Rattle.site_model.specs.Calls.{Attaches, Gave, Looked, Raised, Received, Synced, Takes, Wrote};
 ghost use Rattle.site_model.specs.Told.{Files as Files_told, Is, file_of};
 ghost use Rattle.site_model.specs.Told.Call.{Post, Send};
@@ -8,6 +8,7 @@ ghost use Rattle.atx_sites.specs.Disks.{file_at, is_lost, other_at, told_of};
 
 use crate::disk::Disk;
 use crate::faults::refused;
+use site_model::attachments::{Attachments, Given};
 use site_model::site::{AttachFailed, Site, Taken};
 use site_model::source::Failed;
 use std::fs::File;
@@ -21,6 +22,7 @@ pub struct FileSite<R: Files<File = File> + Clock + Drop> {
     accept: u64,
     receive: u64,
     link: u64,
+    attached: Attachments,
 }
 
 impl<R: Files<File = File> + Clock + Drop> FileSite<R> {
@@ -28,6 +30,7 @@ impl<R: Files<File = File> + Clock + Drop> FileSite<R> {
     pub fn new(rt: R) -> FileSite<R>
         ensures disk { (result.disk.disk ≡ 0) × (result.disk.gate ≡ 0) }
         ensures network { (result.accept ≡ 0) × (result.receive ≡ 0) × (result.link ≡ 0) }
+        ensures names { result.attached.names ≡ [] }
     {
         FileSite {
             rt,
@@ -35,33 +38,37 @@ impl<R: Files<File = File> + Clock + Drop> FileSite<R> {
             accept: 0,
             receive: 0,
             link: 0,
+            attached: Attachments::new(),
         }
     }
 }
 
 impl<R: Files<File = File> + Clock + Drop> Site for FileSite<R> {
-    ghost told = { λ s. told_of s.disk s.accept s.receive s.link };
+    ghost told = { λ s. told_of s.disk s.accept s.receive s.link s.attached.names };
 
     ghost counts_now = { λ s l c is now. now };
 
     ghost only_now = { λ s l m c is le past. absurd past };
 
     /// Opens the files. There is no listener.
-    fn attach(&mut self, journal: &str, _listen: &str) -> Result<(), AttachFailed>
+    fn attach(&mut self, journal: &str, listen: &str) -> Result<(), AttachFailed>
         ensures sure { OnOk result ((is_lost self.new.disk.first ≡ false) × (is_lost self.new.disk.second ≡ false)) }
         ensures shut { OnErr result ((is_lost self.new.disk.first ≡ true) × (is_lost self.new.disk.second ≡ true)) }
-        ensures call { Attaches result (told_of self.old.disk self.old.accept self.old.receive self.old.link) (told_of self.new.disk self.new.accept self.new.receive self.new.link) }
+        ensures call { Attaches journal.now listen.now result (told_of self.old.disk self.old.accept self.old.receive self.old.link self.old.attached.names) (told_of self.new.disk self.new.accept self.new.receive self.new.link self.new.attached.names) }
     {
         match self.disk.open(&self.rt, journal) {
-            Ok(()) => Ok(()),
+            Ok(()) => {
+                self.attached = self.attached.and(&Given { journal, listen });
+                Ok(())
+            }
             Err(_) => Err(AttachFailed::Disk),
         }
     }
 
     fn size(&mut self, file: u8) -> Result<u64, Failed>
         ensures shut { file_at file self.old.disk ≡ None → IsErr result }
-        ensures is { IfOk result (λ n. (f : Files_told) → Is (told_of self.old.disk self.old.accept self.old.receive self.old.link).files f → n ≡ length (file_of file f)) }
-        ensures call { Looked result (told_of self.old.disk self.old.accept self.old.receive self.old.link) (told_of self.new.disk self.new.accept self.new.receive self.new.link) }
+        ensures is { IfOk result (λ n. (f : Files_told) → Is (told_of self.old.disk self.old.accept self.old.receive self.old.link self.old.attached.names).files f → n ≡ length (file_of file f)) }
+        ensures call { Looked result (told_of self.old.disk self.old.accept self.old.receive self.old.link self.old.attached.names) (told_of self.new.disk self.new.accept self.new.receive self.new.link self.new.attached.names) }
     {
         self.disk.size(file)
     }
@@ -70,9 +77,9 @@ impl<R: Files<File = File> + Clock + Drop> Site for FileSite<R> {
         ensures shut { file_at file self.old.disk ≡ None → IsErr result }
         ensures bound { IfOk result (λ n. n ≤ length buf.new) }
         ensures same_length { length buf.new ≡ length buf.old }
-        ensures is { IfOk result (λ n. (f : Files_told) → Is (told_of self.old.disk self.old.accept self.old.receive self.old.link).files f → take n buf.new ≡ take n (drop at (file_of file f))) }
-        ensures end { IfOk result (λ n. (f : Files_told) → Is (told_of self.old.disk self.old.accept self.old.receive self.old.link).files f → n ≡ 0 → 0 < length buf.old → length (file_of file f) ≤ at) }
-        ensures call { Looked result (told_of self.old.disk self.old.accept self.old.receive self.old.link) (told_of self.new.disk self.new.accept self.new.receive self.new.link) }
+        ensures is { IfOk result (λ n. (f : Files_told) → Is (told_of self.old.disk self.old.accept self.old.receive self.old.link self.old.attached.names).files f → take n buf.new ≡ take n (drop at (file_of file f))) }
+        ensures end { IfOk result (λ n. (f : Files_told) → Is (told_of self.old.disk self.old.accept self.old.receive self.old.link self.old.attached.names).files f → n ≡ 0 → 0 < length buf.old → length (file_of file f) ≤ at) }
+        ensures call { Looked result (told_of self.old.disk self.old.accept self.old.receive self.old.link self.old.attached.names) (told_of self.new.disk self.new.accept self.new.receive self.new.link self.new.attached.names) }
     {
         self.disk.read(file, at, buf)
     }
@@ -80,7 +87,7 @@ impl<R: Files<File = File> + Clock + Drop> Site for FileSite<R> {
     #[tactic(auto, using(crate::proofs::SilentMachines::wrote))]
     fn write_at(&mut self, file: u8, at: u64, bytes: &[u8]) -> Result<(), Failed>
         ensures shut { file_at file self.old.disk ≡ None → IsErr result }
-        ensures call { Wrote file at bytes.now result (told_of self.old.disk self.old.accept self.old.receive self.old.link) (told_of self.new.disk self.new.accept self.new.receive self.new.link) }
+        ensures call { Wrote file at bytes.now result (told_of self.old.disk self.old.accept self.old.receive self.old.link self.old.attached.names) (told_of self.new.disk self.new.accept self.new.receive self.new.link self.new.attached.names) }
     {
         self.disk.write_at(file, at, bytes)
     }
@@ -90,7 +97,7 @@ impl<R: Files<File = File> + Clock + Drop> Site for FileSite<R> {
         ensures lost { is_lost (file_at file self.old.disk) ≡ true → IsErr result }
         ensures failed { OnErr result (is_lost (file_at file self.new.disk) ≡ true) }
         ensures other { other_at file self.new.disk ≡ other_at file self.old.disk }
-        ensures call { Synced file result (told_of self.old.disk self.old.accept self.old.receive self.old.link) (told_of self.new.disk self.new.accept self.new.receive self.new.link) }
+        ensures call { Synced file result (told_of self.old.disk self.old.accept self.old.receive self.old.link self.old.attached.names) (told_of self.new.disk self.new.accept self.new.receive self.new.link self.new.attached.names) }
     {
         self.disk.sync(file)
     }
@@ -99,14 +106,14 @@ impl<R: Files<File = File> + Clock + Drop> Site for FileSite<R> {
     fn raise_gate(&mut self, file: u8, at: u64) -> Result<(), Failed>
         ensures lost { is_lost (file_at file self.old.disk) ≡ true → IsErr result }
         ensures other { other_at file self.new.disk ≡ other_at file self.old.disk }
-        ensures call { Raised file at result (told_of self.old.disk self.old.accept self.old.receive self.old.link) (told_of self.new.disk self.new.accept self.new.receive self.new.link) }
+        ensures call { Raised file at result (told_of self.old.disk self.old.accept self.old.receive self.old.link self.old.attached.names) (told_of self.new.disk self.new.accept self.new.receive self.new.link self.new.attached.names) }
     {
         self.disk.raise_gate(file, at)
     }
 
     fn take(&mut self) -> Result<Taken, Failed>
         ensures fails { IsErr result }
-        ensures call { Takes result (told_of self.old.disk self.old.accept self.old.receive self.old.link) (told_of self.new.disk self.new.accept self.new.receive self.new.link) }
+        ensures call { Takes result (told_of self.old.disk self.old.accept self.old.receive self.old.link self.old.attached.names) (told_of self.new.disk self.new.accept self.new.receive self.new.link self.new.attached.names) }
     {
         refused(&mut self.accept)
     }
@@ -114,7 +121,7 @@ impl<R: Files<File = File> + Clock + Drop> Site for FileSite<R> {
     fn receive(&mut self, _buf: &mut [u8]) -> Result<usize, Failed>
         ensures fails { IsErr result }
         ensures same_length { length _buf.new ≡ length _buf.old }
-        ensures call { Received result _buf.new (told_of self.old.disk self.old.accept self.old.receive self.old.link) (told_of self.new.disk self.new.accept self.new.receive self.new.link) }
+        ensures call { Received result _buf.new (told_of self.old.disk self.old.accept self.old.receive self.old.link self.old.attached.names) (told_of self.new.disk self.new.accept self.new.receive self.new.link self.new.attached.names) }
     {
         refused(&mut self.receive)
     }
@@ -122,7 +129,7 @@ impl<R: Files<File = File> + Clock + Drop> Site for FileSite<R> {
     #[tactic(auto, using(crate::proofs::SilentMachines::gave))]
     fn send(&mut self, _bytes: &[u8]) -> Result<(), Failed>
         ensures fails { IsErr result }
-        ensures call { Gave (Send _bytes.now) result (told_of self.old.disk self.old.accept self.old.receive self.old.link) (told_of self.new.disk self.new.accept self.new.receive self.new.link) }
+        ensures call { Gave (Send _bytes.now) result (told_of self.old.disk self.old.accept self.old.receive self.old.link self.old.attached.names) (told_of self.new.disk self.new.accept self.new.receive self.new.link self.new.attached.names) }
     {
         refused(&mut self.link)
     }
@@ -132,7 +139,7 @@ impl<R: Files<File = File> + Clock + Drop> Site for FileSite<R> {
     #[tactic(auto, using(crate::proofs::SilentMachines::gave))]
     fn post(&mut self, _host: &str, _port: u16, _bytes: &[u8]) -> Result<(), Failed>
         ensures fails { IsErr result }
-        ensures call { Gave (Post _host.now _port _bytes.now) result (told_of self.old.disk self.old.accept self.old.receive self.old.link) (told_of self.new.disk self.new.accept self.new.receive self.new.link) }
+        ensures call { Gave (Post _host.now _port _bytes.now) result (told_of self.old.disk self.old.accept self.old.receive self.old.link self.old.attached.names) (told_of self.new.disk self.new.accept self.new.receive self.new.link self.new.attached.names) }
     {
         refused(&mut self.link)
     }

@@ -4,6 +4,7 @@ use Rattle.std.proofs.lemmas.List.{drop-append-le, length-append, length-drop}
 use Rattle.std.proofs.Math.Seq.{drop-length}
 use Rattle.std.proofs.lemmas.Bool.{and_from, and_parts, eq-eqb, eqb-true, false≢true, le-leb, leb-true, ne_eqb, not-true}
 use Rattle.std.specs.Prelude.{nat_eq}
+use Rattle.site_model.specs.Attachments.{Names}
 use Rattle.site_model.specs.Told.{Call, Made, done, failed}
 use Rattle.site_model.specs.Told.Call.{Write}
 use Rattle.site_memory.specs.Armings.{are_armed, arming_of, is_armed, is_as, is_to_come}
@@ -142,12 +143,12 @@ told_so s a e =
     (f.within, are_facts a.since a.fails (drop a.since (calls_in s.device)) f.are)
 
 -- what it tells of its counts, where one of them rose
-module _ (a b : Option Arming) (links : Links) (t : Tally) where
-  pub on_disk : {x : ℕ} → b ≡ a → counts_of b links (record t { disk = x }) ≡ record (counts_of a links t) { disk = x }
-  on_disk {x} e = ap (λ z. counts_of z links (record t { disk = x })) e
+module _ (a b : Option Arming) (links : Links) (t : Tally) (names : List Names) where
+  pub on_disk : {x : ℕ} → b ≡ a → counts_of b links (record t { disk = x }) names ≡ record (counts_of a links t names) { disk = x }
+  on_disk {x} e = ap (λ z. counts_of z links (record t { disk = x }) names) e
 
-  pub on_gate : {x : ℕ} → b ≡ a → counts_of b links (record t { gate = x }) ≡ record (counts_of a links t) { gate = x }
-  on_gate {x} e = ap (λ z. counts_of z links (record t { gate = x })) e
+  pub on_gate : {x : ℕ} → b ≡ a → counts_of b links (record t { gate = x }) names ≡ record (counts_of a links t names) { gate = x }
+  on_gate {x} e = ap (λ z. counts_of z links (record t { gate = x }) names) e
 
-  pub on_link : {x : ℕ} → b ≡ a → counts_of b links (record t { link = x }) ≡ record (counts_of a links t) { link = x }
-  on_link {x} e = ap (λ z. counts_of z links (record t { link = x })) e
+  pub on_link : {x : ℕ} → b ≡ a → counts_of b links (record t { link = x }) names ≡ record (counts_of a links t names) { link = x }
+  on_link {x} e = ap (λ z. counts_of z links (record t { link = x }) names) e

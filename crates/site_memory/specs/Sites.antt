@@ -5,6 +5,7 @@ use Rattle.std.proofs.Common.{arith}
 use Rattle.std.specs.Prelude.{ℕ, List, Bool, true, Option, Some, None, false, Result, Ok, Err, [], ◌∷◌, ◌≡◌, ◌≢◌, ◌⊎◌, ◌≤◌, ◌++◌, cond, length, drop, map, option_map}
 use Rattle.site_model.specs.Told.{Told, Call, Made, Files, Link}
 use Rattle.site_model.specs.Told.Call.{Write, Sync, Post}
+use Rattle.site_model.specs.Attachments.{Names as Attachment}
 use Rattle.site_model.specs.Site.{Counts}
 use Rattle.site_memory.specs.Armings.{told_arming}
 use Rattle.site_memory.specs.declared.arm.Arm.TheVariants.{Idle}
@@ -33,12 +34,12 @@ abbrev pub link_of : Line → Link
 link_of line = record { open_bytes = drop line.at line.coming.items; waiting = map contents line.waiting.items }
 
 -- It tells of an arming only where none of its links was told to fail.
-abbrev pub counts_of : Option Arming → Links → Tally → Counts
-counts_of arming links t =
-    record { arming = cond links.may_fail None (option_map told_arming arming); disk = t.disk; gate = t.gate; accept = links.accept; receive = links.receive; link = t.link; taken = t.taken; closings = t.closings }
+abbrev pub counts_of : Option Arming → Links → Tally → List Attachment → Counts
+counts_of arming links t names =
+    record { arming = cond links.may_fail None (option_map told_arming arming); disk = t.disk; gate = t.gate; accept = links.accept; receive = links.receive; link = t.link; taken = t.taken; closings = t.closings; attached = names }
 
 abbrev pub told_of : MemSite → Told
-told_of s = tells (opening_in s.device) (calls_in s.device) (link_of s.line) s.clock (counts_of s.device.arming s.links s.tally)
+told_of s = tells (opening_in s.device) (calls_in s.device) (link_of s.line) s.clock (counts_of s.device.arming s.links s.tally s.attached.names)
 
 pub now_counts : (s : MemSite) (l : List Made) (c : Files) → (told_of s).calls ≡ Some l → (told_of s).images c → (told_of s).past l c
 now_counts s l c is now = (([], append-nil l ∙ sym (same is)), subst (λ z. Image (opening_in s.device) z c) (same is) now) where
@@ -90,7 +91,7 @@ pub record IsNew (s : MemSite) : Type 0 where
   pub sent : (s.answers.items ≡ []) × (s.posts.items ≡ [])
   pub links : (s.links.may_fail ≡ false) × (s.links.fail ≡ 0) × (s.links.names ≡ None)
   pub clock : s.clock ≡ 0
-  pub counts : counts_of s.device.arming s.links s.tally ≡ record { arming = None; disk = 0; gate = 0; accept = 0; receive = 0; link = 0; taken = 0; closings = 0 }
+  pub counts : counts_of s.device.arming s.links s.tally s.attached.names ≡ record { arming = None; disk = 0; gate = 0; accept = 0; receive = 0; link = 0; taken = 0; closings = 0; attached = [] }
   pub armed : (s.device.arm ≡ Idle) × (s.device.wanted ≡ false) × (s.fail_read ≡ 0)
 
 -- nothing but its arm changes

@@ -5,6 +5,7 @@ use crate::device::Device;
 use crate::line::Line;
 use crate::links::Links;
 use crate::tally::Tally;
+use site_model::attachments::Attachments;
 use std::alloc::Global;
 
 /// A node's machine in memory, without faults until it is armed.
@@ -21,6 +22,7 @@ pub struct MemSite {
     pub(crate) clock: u64,
     pub(crate) tally: Tally,
     pub(crate) fail_read: u32,
+    pub(crate) attached: Attachments,
 }
 
 impl Drop for MemSite {
@@ -35,6 +37,7 @@ impl Drop for MemSite {
             clock: _clock,
             tally: _tally,
             fail_read: _fail_read,
+            attached: _attached,
         } = self;
     }
 }

@@ -21,6 +21,7 @@ use crate::line::Line;
 use crate::links::{Links, Names};
 use crate::machine::MemSite;
 use crate::tally::{Tally, answer, falls, one_more};
+use site_model::attachments::{Attachments, Given};
 use site_model::site::{AttachFailed, Site, Taken};
 use site_model::source::Failed;
 use std::alloc::{AllocError, Global};
@@ -113,6 +114,7 @@ impl MemSite {
                 closings: 0,
             },
             fail_read: 0,
+            attached: Attachments::new(),
         }
     }
 
@@ -295,16 +297,16 @@ impl Site for MemSite {
     ghost only_now = { now_only };
 
     fn attach(&mut self, journal: &str, listen: &str) -> Result<(), AttachFailed>
-        ensures call { Attaches result (told_of self.old) (told_of self.new) }
+        ensures call { Attaches journal.now listen.now result (told_of self.old) (told_of self.new) }
         ensures is { Attached self.old.links.names (nat_eq self.old.links.fail 1) journal.now listen.now result }
         ensures next { self.new.links.fail ≡ self.old.links.fail - 1 }
         ensures links { (self.new.links.may_fail ≡ self.old.links.may_fail) × (self.new.links.names ≡ self.old.links.names) }
-        ensures others { self.new ≡ record self.old { links = self.new.links; tally = self.new.tally } }
+        ensures others { self.new ≡ record self.old { links = self.new.links; tally = self.new.tally; attached = self.new.attached } }
     {
         let falls = falls(&mut self.links.fail);
         let answer = attached(&self.links.names, falls, journal, listen);
         match answer {
-            Ok(()) => {}
+            Ok(()) => self.attached = self.attached.and(&Given { journal, listen }),
             Err(AttachFailed::Disk) => self.tally.disk = one_more(self.tally.disk),
             Err(AttachFailed::Link) => self.links.accept = one_more(self.links.accept),
         }

@@ -1,2 +1,3 @@
+mod Fieldless
 pub mod KnownBytes
 pub mod Past

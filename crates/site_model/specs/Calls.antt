@@ -63,10 +63,11 @@ pub record Gave {T E : Type 0} (call : Call) (result : Result T E) (old new : To
   pub apart : Apart old new
   pub counts : OnLink old.counts new.counts result
 
-pub record Attaches {T : Type 0} (result : Result T AttachFailed) (old new : Told) : Type 0 where
+-- by these names
+pub record Attaches {T : Type 0} (journal listen : List ℕ) (result : Result T AttachFailed) (old new : Told) : Type 0 where
   pub still : Still old new
   pub apart : Apart old new
-  pub counts : Attached old.counts new.counts result
+  pub counts : Attached journal listen old.counts new.counts result
 
 -- the first of those that wait is open; none is where none came
 abbrev pub OpensAs : Taken → Link → Link → Type 0

@@ -1,3 +1,4 @@
+pub mod Attachments
 pub mod Calls
 pub mod Counts
 pub mod Site

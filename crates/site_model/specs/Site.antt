@@ -1,5 +1,6 @@
--- What a node's machine counts, and which counts a call may raise.
-use Rattle.std.specs.Prelude.{ℕ, ◌≡◌, ◌≤◌, Option, Result, Ok, Err, OnOk}
+-- What a node's machine counts, and which counts a call may raise; and by which names it was attached.
+use Rattle.std.specs.Prelude.{ℕ, List, ◌≡◌, ◌≤◌, ◌++◌, Option, Result, Ok, Err, OnOk}
+use Rattle.site_model.specs.Attachments.{Names, attached_by}
 use Rattle.site_model.specs.Counts.{HasCause, RisesBy, Rose}
 use Rattle.site_model.specs.declared.site.AttachFailed.{AttachFailed}
 use Rattle.site_model.specs.declared.site.AttachFailed.TheVariants.{Disk, Link}
@@ -12,7 +13,7 @@ pub record Arming : Type 0 where
   pub since : ℕ
   pub fails : ℕ
 
--- No call changes what the machine was told, if it was told anything.
+-- No call changes what the machine was told, if it was told anything; and none but `attach` the names by which it was attached, in order.
 pub record Counts : Type 0 where
   pub arming : Option Arming
   pub disk : ℕ
@@ -22,6 +23,7 @@ pub record Counts : Type 0 where
   pub link : ℕ
   pub taken : ℕ
   pub closings : ℕ
+  pub attached : List Names
 
 -- a call on a file: a failure has its cause in the disk's count, and no other count changes
 pub record OnDisk {T E : Type 0} (old new : Counts) (result : Result T E) : Type 0 where
@@ -48,11 +50,13 @@ AttachCause old new (Ok x) = Unit {0}
 AttachCause old new (Err Disk) = Rose old.disk new.disk
 AttachCause old new (Err Link) = Rose old.accept new.accept
 
-pub record Attached {T : Type 0} (old new : Counts) (result : Result T AttachFailed) : Type 0 where
+-- and the names are those that it was given
+pub record Attached {T : Type 0} (journal listen : List ℕ) (old new : Counts) (result : Result T AttachFailed) : Type 0 where
   pub disk : old.disk ≤ new.disk
   pub accept : old.accept ≤ new.accept
   pub cause : AttachCause old new result
-  pub others : new ≡ record old { disk = new.disk; accept = new.accept }
+  pub names : new.attached ≡ old.attached ++ attached_by journal listen result
+  pub others : new ≡ record old { disk = new.disk; accept = new.accept; attached = new.attached }
 
 -- each connection that is opened is counted, and each time that none came
 abbrev pub Counted : {E : Type 0} → Counts → Counts → Result Taken E → Type 0

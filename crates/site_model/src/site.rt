@@ -37,7 +37,7 @@ pub enum Taken {
 /// A failure of a call has its cause in the count of its kind, which rose: `disk` for the files, `gate` for raising a
 /// gate, `accept` for the listener, `receive` and `link` for the connection and the posts. `taken` and `closings` count
 /// the connections that were opened and the times that none came. Counts never fall, and a `receive` that succeeds isn't
-/// counted. `file` is 0 or 1.
+/// counted. `attached` are the names of each attach that succeeded, in order. `file` is 0 or 1.
 pub trait Site {
     ghost told: { Self → Told };
 
@@ -46,9 +46,9 @@ pub trait Site {
 
     ghost only_now: { (s : Self) (l m : List Made) (c : Files) → (told s).calls ≡ Some m → length m ≤ length l → (told s).past l c → (l ≡ m) × (told s).images c };
 
-    /// Opens the journal's files and the listener.
+    /// Opens the files of the journal of this name, and the listener at this address.
     fn attach(&mut self, journal: &str, listen: &str) -> Result<(), AttachFailed>
-        ensures { Attaches result (told self.old) (told self.new) };
+        ensures { Attaches journal.now listen.now result (told self.old) (told self.new) };
 
     /// The bytes of a file.
     fn size(&mut self, file: u8) -> Result<u64, Failed>

@@ -1,27 +1,34 @@
 //! A machine that never fails and does nothing.
 
-ghost use Rattle.std.specs.Prelude.{◌≡◌, ◌≤◌, ◌<◌, ◌+◌, length, take, drop, IfOk, Ok};
+ghost use Rattle.std.specs.Prelude.{◌≡◌, ◌≤◌, ◌<◌, ◌+◌, [], length, take, drop, IfOk, Ok};
 ghost use Rattle.site_model.specs.declared.site.Taken.TheVariants.{Closed};
 ghost use Rattle.site_model.specs.Calls.{Attaches, Looked, Takes};
 ghost use Rattle.site_model.specs.Counts.{capped};
 ghost use Rattle.site_model.specs.SureSites.{told_of};
 ghost use Rattle.site_model.specs.Told.{Files, Is, file_of};
 
+use crate::attachments::{Attachments, Given};
 use crate::site::{AttachFailed, Site, Taken};
 use crate::source::Failed;
 
-/// A machine with empty files, to which no connection comes. It tells nothing and keeps only the number of its closings.
+/// A machine with empty files, to which no connection comes. It tells nothing and keeps only the number of its closings, and, for
+/// contracts, the names by which it was attached.
 #[derive(Drop)]
 pub struct SureSite {
     closings: u64,
+    attached: Attachments,
 }
 
 impl SureSite {
     /// A machine that closed nothing yet.
     pub fn new() -> SureSite
-        ensures { result.closings ≡ 0 }
+        ensures closings { result.closings ≡ 0 }
+        ensures names { result.attached.names ≡ [] }
     {
-        SureSite { closings: 0 }
+        SureSite {
+            closings: 0,
+            attached: Attachments::new(),
+        }
     }
 }
 
@@ -32,10 +39,11 @@ impl Site for SureSite {
 
     ghost only_now = { λ s l m c is le past. absurd past };
 
-    fn attach(&mut self, _journal: &str, _listen: &str) -> Result<(), AttachFailed>
-        ensures ok { (result ≡ Ok tt) × (self.new ≡ self.old) }
-        ensures call { Attaches result (told_of self.old) (told_of self.new) }
+    fn attach(&mut self, journal: &str, listen: &str) -> Result<(), AttachFailed>
+        ensures ok { (result ≡ Ok tt) × (self.new ≡ record self.old { attached = self.new.attached }) }
+        ensures call { Attaches journal.now listen.now result (told_of self.old) (told_of self.new) }
     {
+        self.attached = self.attached.and(&Given { journal, listen });
         Ok(())
     }
 

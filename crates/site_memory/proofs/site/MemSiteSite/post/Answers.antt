@@ -5,4 +5,4 @@ use Rattle.site_memory.proofs.site.MemSiteSite.post.Goals as goal
 
 pub returns-clause-call : goal.returns-clause-call
 returns-clause-call c =
-    posted_on _ _ (link_of c.args.self.now.line) c.args.self.now.clock (counts_of c.args.self.now.device.arming c.args.self.now.links c.args.self.now.tally) _ c.args.host.now c.args.port c.args.bytes.now _ _ c.post_kept-noted.ensures.runs c.answer.ensures.says (record { cause = c.answer.ensures.cause; others = on_link c.args.self.now.device.arming _ c.args.self.now.links c.args.self.now.tally c.post_kept-noted.ensures.runs.arming })
+    posted_on _ _ (link_of c.args.self.now.line) c.args.self.now.clock (counts_of c.args.self.now.device.arming c.args.self.now.links c.args.self.now.tally c.args.self.now.attached.names) _ c.args.host.now c.args.port c.args.bytes.now _ _ c.post_kept-noted.ensures.runs c.answer.ensures.says (record { cause = c.answer.ensures.cause; others = on_link c.args.self.now.device.arming _ c.args.self.now.links c.args.self.now.tally c.args.self.now.attached.names c.post_kept-noted.ensures.runs.arming })

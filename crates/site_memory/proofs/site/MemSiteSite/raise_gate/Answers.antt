@@ -5,4 +5,4 @@ use Rattle.site_memory.proofs.site.MemSiteSite.raise_gate.Goals as goal
 
 pub returns-clause-call : goal.returns-clause-call
 returns-clause-call c =
-    raised_on _ _ (link_of c.args.self.now.line) c.args.self.now.clock (counts_of c.args.self.now.device.arming c.args.self.now.links c.args.self.now.tally) _ c.args.file c.args.at _ _ c.raise-noted.ensures c.answer.ensures.says (record { cause = c.answer.ensures.cause; others = on_gate c.args.self.now.device.arming _ c.args.self.now.links c.args.self.now.tally (twice_arming _ _ _ _ _ c.raise-noted.ensures) })
+    raised_on _ _ (link_of c.args.self.now.line) c.args.self.now.clock (counts_of c.args.self.now.device.arming c.args.self.now.links c.args.self.now.tally c.args.self.now.attached.names) _ c.args.file c.args.at _ _ c.raise-noted.ensures c.answer.ensures.says (record { cause = c.answer.ensures.cause; others = on_gate c.args.self.now.device.arming _ c.args.self.now.links c.args.self.now.tally c.args.self.now.attached.names (twice_arming _ _ _ _ _ c.raise-noted.ensures) })

@@ -5,4 +5,4 @@ use Rattle.site_memory.proofs.site.MemSiteSite.write_at.Goals as goal
 
 pub returns-clause-call : goal.returns-clause-call
 returns-clause-call c =
-    wrote_on _ _ (link_of c.args.self.now.line) c.args.self.now.clock (counts_of c.args.self.now.device.arming c.args.self.now.links c.args.self.now.tally) _ c.args.file c.args.at c.args.bytes.now _ _ c.write-noted.ensures c.answer.ensures.says (record { cause = c.answer.ensures.cause; others = on_disk c.args.self.now.device.arming _ c.args.self.now.links c.args.self.now.tally c.write-noted.ensures.arming })
+    wrote_on _ _ (link_of c.args.self.now.line) c.args.self.now.clock (counts_of c.args.self.now.device.arming c.args.self.now.links c.args.self.now.tally c.args.self.now.attached.names) _ c.args.file c.args.at c.args.bytes.now _ _ c.write-noted.ensures c.answer.ensures.says (record { cause = c.answer.ensures.cause; others = on_disk c.args.self.now.device.arming _ c.args.self.now.links c.args.self.now.tally c.args.self.now.attached.names c.write-noted.ensures.arming })
