@@ -8,6 +8,7 @@ use crate::standard_streams::{Reading, Writing};
 use crate::words::behind_name;
 use atx_sites::node_site::NodeSite;
 use command_line::run::{NO_JOB, NO_MEMORY, run};
+use real_system::real_system::RealSystem;
 use std::env;
 use std::io::ErrorKind;
 use std::process::ExitCode;
@@ -23,7 +24,7 @@ fn main(rt: HostRuntime) -> ExitCode {
     };
     let mut source = Reading::new(rt.stdin());
     let mut sink = Writing::new(rt.stdout());
-    let mut site = NodeSite::new(&rt);
+    let mut site = NodeSite::new(RealSystem::new(&rt));
     ExitCode::from(run(
         rt.alloc(),
         words.as_slice(),

@@ -1,1 +1,3 @@
+pub mod FilePieces
+pub mod Receipts
 pub mod SilentMachines
