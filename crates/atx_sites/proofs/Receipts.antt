@@ -1,5 +1,5 @@
 -- What a connection gives, of a machine that tells its counts alone.
-use Rattle.std.proofs.Common.{ℕ, List, Option, Result, Ok, Err, None, Some, ◌≡◌, ◌≤◌, refl, subst, length, OnOk, IfOk}
+use Rattle.std.proofs.Common.{ℕ, List, Option, Result, Ok, Err, None, Some, ◌≡◌, ◌≤◌, refl, subst, length, OnOk, IfOk, IsErr}
 use Rattle.std.specs.Io.{ReadsAtMost}
 use Rattle.site_model.specs.Attachments.{Names}
 use Rattle.site_model.specs.Counts.{HasCause}
@@ -22,6 +22,10 @@ pub bounded : {E G : Type 0} (buf : List ℕ) (answer : Result ℕ G) (result : 
 bounded buf answer (Err e) h r = tt
 bounded buf (Err e) (Ok n) h r = cc
 bounded buf (Ok m) (Ok n) h r = let e : m ≡ n = cc in subst (λ k. k ≤ length buf) e r.0
+
+pub if_failed : {T E : Type 0} (P : T → Type 0) (result : Result T E) → IsErr result → IfOk result P
+if_failed P (Ok x) h = cc
+if_failed P (Err e) h = tt
 
 module _ {F : Type 0} (disk : Disk F) (accept taken : ℕ) (names : List Names) where
   pub received : {E : Type 0} (old new link : ℕ) (result : Result ℕ E) (buf : List ℕ) → IfOk result (λ n. n ≤ length buf) → HasCause old new result → Tallied old new result
