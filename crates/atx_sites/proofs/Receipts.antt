@@ -11,7 +11,7 @@ use Rattle.atx_sites.specs.Networks.{counts_with}
 use Rattle.atx_sites.specs.declared.disk.Disk.{Disk}
 use Rattle.atx_sites.proofs.SilentMachines.{elapsed}
 
-untold_link : (link : Link) → None ≡ Some link → ⊥
+pub untold_link : (link : Link) → None ≡ Some link → ⊥
 untold_link link h = cc
 
 pub quiet : {T E : Type 0} (before now : ℕ) (result : Result T E) → Tallied before now result → OnOk result (now ≡ before)
