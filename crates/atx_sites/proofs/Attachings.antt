@@ -74,8 +74,8 @@ module _ {F : Type 0} (old new : Disk F) (accept accept_now receive link taken :
       }
 
 module _ {F : Type 0} (disk : Disk F) (accept now receive link taken : ℕ) (names : List Names) where
-  pub opened : {T E G : Type 0} (x : T) (taken_now : ℕ) → HasCause {T} {E} accept now (Ok x) → taken_now ≡ capped (taken + 1)
-      → Takes {G} (Ok Opened) (silent (counts_with disk accept receive link taken names)) (silent (counts_with disk now receive link taken_now names))
+  pub opened : {T E G : Type 0} (x : T) (taken_now : ℕ) → HasCause {T = T} {E = E} accept now (Ok x) → taken_now ≡ capped (taken + 1)
+      → Takes {E = G} (Ok Opened) (silent (counts_with disk accept receive link taken names)) (silent (counts_with disk now receive link taken_now names))
   opened x taken_now cause once =
       record {
         still = record { files = refl; images = λ c h. h; calls = refl; time = elapsed _ _ _ };
@@ -85,8 +85,8 @@ module _ {F : Type 0} (disk : Disk F) (accept now receive link taken : ℕ) (nam
         counts = record { cause = record { later = cause.later; failed = tt }; counted = (rises taken taken_now once, refl); others = refl };
       }
 
-  pub unopened : {T E : Type 0} (fault : E) → HasCause {T} {E} accept now (Err fault)
-      → Takes {E} (Err fault) (silent (counts_with disk accept receive link taken names)) (silent (counts_with disk now receive link taken names))
+  pub unopened : {T E : Type 0} (fault : E) → HasCause {T = T} {E = E} accept now (Err fault)
+      → Takes {E = E} (Err fault) (silent (counts_with disk accept receive link taken names)) (silent (counts_with disk now receive link taken names))
   unopened fault cause =
       record {
         still = record { files = refl; images = λ c h. h; calls = refl; time = elapsed _ _ _ };
