@@ -36,11 +36,7 @@ pub struct Connection<L, C> {
 }
 
 /// Reads, and says how many bytes, before the connection's time ends.
-fn read<S: System>(
-    system: &mut S,
-    served: &Served<S::Stream>,
-    buf: &mut [u8],
-) -> io::Result<usize>
+fn read<S: System>(system: &mut S, served: &Served<S::Stream>, buf: &mut [u8]) -> io::Result<usize>
     ensures { ReadsAtMost result buf.new }
 {
     'tries: for _ in 0..u16::MAX {
@@ -157,10 +153,7 @@ pub(crate) fn send<S: System>(
 }
 
 /// Closes the connection that is open, if one is.
-pub(crate) fn close<S: System>(
-    system: &mut S,
-    connection: &mut Connection<S::Listener, S::Stream>,
-)
+pub(crate) fn close<S: System>(system: &mut S, connection: &mut Connection<S::Listener, S::Stream>)
     ensures shut { connection.new.served ≡ None }
     ensures same { connection.new.listener ≡ connection.old.listener }
 {

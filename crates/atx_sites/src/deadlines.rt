@@ -6,9 +6,11 @@ use system_calls::system::System;
 
 /// The time that ends so many seconds from now.
 pub(crate) fn in_seconds<S: System>(system: &mut S, seconds: u64) -> io::Result<Duration> {
-    Ok(system
-        .monotonic()?
-        .saturating_add(Duration::from_secs(seconds)))
+    Ok(
+        system
+            .monotonic()?
+            .saturating_add(Duration::from_secs(seconds)),
+    )
 }
 
 /// What is left of a time. A time that is over is a failure.

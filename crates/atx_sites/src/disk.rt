@@ -40,10 +40,7 @@ impl<F> Disk<F> {
 }
 
 /// Both files of a journal. Their folder is made last too, as they may be new in it.
-fn open_both<S: System>(
-    system: &mut S,
-    journal: &str,
-) -> io::Result<(Held<S::File>, Held<S::File>)>
+fn open_both<S: System>(system: &mut S, journal: &str) -> io::Result<(Held<S::File>, Held<S::File>)>
     ensures sure { IfOk result (λ p. (p.0.is_lost ≡ false) × (p.1.is_lost ≡ false)) }
     ensures calls { IfBoth S.File.raw_fd journal.now result (S.calls system.old) (S.calls system.new) }
 {
@@ -84,11 +81,7 @@ pub fn open<S: System>(
 }
 
 /// The bytes of a file.
-pub fn size<S: System>(
-    system: &mut S,
-    disk: &mut Disk<S::File>,
-    file: u8,
-) -> Result<u64, Failed>
+pub fn size<S: System>(system: &mut S, disk: &mut Disk<S::File>, file: u8) -> Result<u64, Failed>
     ensures cause { HasCause disk.old.disk disk.new.disk result }
     ensures counted { Tallied disk.old.disk disk.new.disk result }
     ensures shut { file_at file disk.old ≡ None → IsErr result }

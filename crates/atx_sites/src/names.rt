@@ -26,13 +26,7 @@ pub(crate) fn folder_of(name: &str) -> &str
     ensures { IsFolderOf name.now result.now }
 {
     match name.rsplit_once('/') {
-        Some((folder, _)) => {
-            if folder.is_empty() {
-                "/"
-            } else {
-                folder
-            }
-        }
+        Some((folder, _)) => { if folder.is_empty() { "/" } else { folder } }
         None => ".",
     }
 }

@@ -17,5 +17,6 @@ pub pieces-preserved : goal.pieces-preserved
 pieces-preserved g c =
     let e = placed _ c.args.at c.pieces.done _ _ _ _ _ c.write_at.ensures.calls c.in-Some.ensures.1 in
     elim c.match-write_at.branch [
-      in-Ok w ↦ (within _ _ _ c.args.bytes.now w.in-Ok.ensures.bound c.pieces.invariant.0 w.done-is, wrote_more _ _ _ _ _ _ _ _ _ _ c.pieces.invariant.1 e w.in-Ok.is w.done-is)
-    | in-Err w ↦ (omega (arith, c.pieces.invariant.0, w.done-is), wrote_none _ _ _ _ _ _ _ _ _ _ c.pieces.invariant.1 e w.in-Err.is w.done-is) ]
+      | in-Ok w ↦ (within _ _ _ c.args.bytes.now w.in-Ok.ensures.bound c.pieces.invariant.0 w.done-is, wrote_more _ _ _ _ _ _ _ _ _ _ c.pieces.invariant.1 e w.in-Ok.is w.done-is)
+      | in-Err w ↦ (omega (arith, c.pieces.invariant.0, w.done-is), wrote_none _ _ _ _ _ _ _ _ _ _ c.pieces.invariant.1 e w.in-Err.is w.done-is)
+    ]
