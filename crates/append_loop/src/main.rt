@@ -10,6 +10,7 @@ ghost use Rattle.journal_at.specs.Format.{IsBody};
 use atx_sites::file_site::FileSite;
 use journal_at::journal::{Append, Journal};
 use journal_at::load::{LoadFault, load};
+use real_system::real_system::RealSystem;
 use site_model::site::Site;
 use std::alloc::{AllocError, Global};
 use std::process::ExitCode;
@@ -132,7 +133,7 @@ fn main(rt: HostRuntime) -> ExitCode {
         }
         return ExitCode::from(NO_JOB);
     };
-    let mut site = FileSite::new(&rt);
+    let mut site = FileSite::new(RealSystem::new(&rt));
     match work(rt.alloc(), &mut site, &job) {
         Ok(done) => ExitCode::from(report(&rt, done, job.count)),
         Err(status) => ExitCode::from(status),

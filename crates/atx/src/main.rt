@@ -9,6 +9,7 @@ use crate::standard_streams::{Reading, Writing};
 use crate::top_call::program;
 use atx_sites::node_site::NodeSite;
 use command_line::run::{NO_JOB, NO_MEMORY};
+use real_system::real_system::RealSystem;
 use std::env;
 use std::io::ErrorKind;
 use std::process::ExitCode;
@@ -21,6 +22,6 @@ fn main(rt: HostRuntime) -> ExitCode {
     };
     let mut source = Reading::new(rt.stdin());
     let mut sink = Writing::new(rt.stdout());
-    let mut site = NodeSite::new(&rt);
+    let mut site = NodeSite::new(RealSystem::new(&rt));
     ExitCode::from(program(rt.alloc(), args, &mut source, &mut sink, &mut site))
 }

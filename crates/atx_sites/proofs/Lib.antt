@@ -1,1 +1,4 @@
+pub mod Attachings
+pub mod FilePieces
+pub mod Receipts
 pub mod SilentMachines

@@ -1,2 +1,5 @@
 pub mod Disks
+pub mod FileCalls
+pub mod Files
+pub mod LinkCalls
 pub mod Networks

@@ -2,45 +2,33 @@
 
 ghost use Rattle.std.specs.Prelude.{◌≡◌, ◌≤◌, true, false, length, None, IfOk, IsErr, OnOk, OnErr};
 ghost use Rattle.site_model.specs.Counts.{HasCause};
-ghost use Rattle.atx_sites.specs.Disks.{Tallied, file_at, is_lost, other_at};
+ghost use Rattle.atx_sites.specs.Disks.{Tallied, IfHeld, file_at, other_at};
+ghost use Rattle.atx_sites.specs.FileCalls.{IfBoth, Raises, Reads, Sized, Syncs, Writes};
+ghost use Rattle.atx_sites.specs.Files.{is_lost, number_of};
 
 use crate::faults::counted;
 use crate::names::{folder_of, second_name};
-use crate::open_file::{Held, open_alone, raise_gate, read, size, sync, write};
+use crate::open_file::{self, Held, open_alone, sync_folder};
 use site_model::source::Failed;
-use std::fs::File;
 use std::io::{self, ErrorKind};
-use std::rt::Files;
+use system_calls::system::System;
 
 /// The two files of a journal, and the numbers of calls on them that failed: `gate` of those that raise a gate, `disk` of
 /// all others. A number at 2^64 - 1 stays there.
 #[derive(Drop)]
-pub struct Disk {
-    pub(crate) first: Option<Held>,
-    pub(crate) second: Option<Held>,
+pub struct Disk<F> {
+    pub(crate) first: Option<Held<F>>,
+    pub(crate) second: Option<Held<F>>,
     pub(crate) disk: u64,
     pub(crate) gate: u64,
 }
 
-/// Both files of a journal. Their folder is made last too, as they may be new in it.
-fn open_both<R: Files<File = File>>(rt: &R, journal: &str) -> io::Result<(Held, Held)>
-    ensures { IfOk result (λ p. (p.0.is_lost ≡ false) × (p.1.is_lost ≡ false)) }
-{
-    let mut buf = [0u8; 4096];
-    let Some(name) = second_name(&mut buf, journal) else {
-        return Err(ErrorKind::InvalidInput.into());
-    };
-    let first = open_alone(rt, journal)?;
-    let second = open_alone(rt, name)?;
-    File::open(rt, folder_of(journal))?.sync_all()?;
-    Ok((first, second))
-}
-
-impl Disk {
+impl<F> Disk<F> {
     /// No file is open, and nothing failed.
-    pub fn new() -> Disk
+    pub fn new() -> Disk<F>
         ensures counts { (result.disk ≡ 0) × (result.gate ≡ 0) }
         ensures shut { (is_lost result.first ≡ true) × (is_lost result.second ≡ true) }
+        ensures none { (result.first ≡ None) × (result.second ≡ None) }
     {
         Disk {
             first: None,
@@ -49,101 +37,145 @@ impl Disk {
             gate: 0,
         }
     }
+}
 
-    /// Opens the journal's files, for this process alone, and makes them where they aren't there. Those that were open are
-    /// closed first.
-    pub fn open<R: Files<File = File>>(&mut self, rt: &R, journal: &str) -> Result<(), Failed>
-        ensures sure { OnOk result ((is_lost self.new.first ≡ false) × (is_lost self.new.second ≡ false)) }
-        ensures shut { OnErr result ((is_lost self.new.first ≡ true) × (is_lost self.new.second ≡ true)) }
-        ensures cause { HasCause self.old.disk self.new.disk result }
-        ensures counted { Tallied self.old.disk self.new.disk result }
-        ensures gate { self.new.gate ≡ self.old.gate }
-    {
-        self.first = None;
-        self.second = None;
-        match counted(&mut self.disk, open_both(rt, journal)) {
-            Ok((first, second)) => {
-                self.first = Some(first);
-                self.second = Some(second);
-                Ok(())
-            }
-            Err(fault) => Err(fault),
+/// Both files of a journal. Their folder is made last too, as they may be new in it.
+fn open_both<S: System>(system: &mut S, journal: &str) -> io::Result<(Held<S::File>, Held<S::File>)>
+    ensures sure { IfOk result (λ p. (p.0.is_lost ≡ false) × (p.1.is_lost ≡ false)) }
+    ensures calls { IfBoth S.File.raw_fd journal.now result (S.calls system.old) (S.calls system.new) }
+{
+    let mut buf = [0u8; 4096];
+    let Some(name) = second_name(&mut buf, journal) else {
+        return Err(ErrorKind::InvalidInput.into());
+    };
+    let first = open_alone(system, journal)?;
+    let second = open_alone(system, name)?;
+    sync_folder(system, folder_of(journal))?;
+    Ok((first, second))
+}
+
+/// Opens the journal's files, for this process alone, and makes them where they aren't there. Those that were open are
+/// closed first.
+pub fn open<S: System>(
+    system: &mut S,
+    disk: &mut Disk<S::File>,
+    journal: &str,
+) -> Result<(), Failed>
+    ensures sure { OnOk result ((is_lost disk.new.first ≡ false) × (is_lost disk.new.second ≡ false)) }
+    ensures shut { OnErr result ((disk.new.first ≡ None) × (disk.new.second ≡ None)) }
+    ensures cause { HasCause disk.old.disk disk.new.disk result }
+    ensures counted { Tallied disk.old.disk disk.new.disk result }
+    ensures gate { disk.new.gate ≡ disk.old.gate }
+    ensures calls { IfHeld S.File.raw_fd journal.now result disk.new (S.calls system.old) (S.calls system.new) }
+{
+    disk.first = None;
+    disk.second = None;
+    match counted(&mut disk.disk, open_both(system, journal)) {
+        Ok((first, second)) => {
+            disk.first = Some(first);
+            disk.second = Some(second);
+            Ok(())
         }
+        Err(fault) => Err(fault),
     }
+}
 
-    /// The bytes of a file.
-    pub fn size(&mut self, file: u8) -> Result<u64, Failed>
-        ensures cause { HasCause self.old.disk self.new.disk result }
-        ensures counted { Tallied self.old.disk self.new.disk result }
-        ensures shut { file_at file self.old ≡ None → IsErr result }
-        ensures same { self.new ≡ record self.old { disk = self.new.disk } }
-    {
-        let answer = match file {
-            0 => size(&self.first),
-            _ => size(&self.second),
-        };
-        counted(&mut self.disk, answer)
-    }
+/// The bytes of a file.
+pub fn size<S: System>(system: &mut S, disk: &mut Disk<S::File>, file: u8) -> Result<u64, Failed>
+    ensures cause { HasCause disk.old.disk disk.new.disk result }
+    ensures counted { Tallied disk.old.disk disk.new.disk result }
+    ensures shut { file_at file disk.old ≡ None → IsErr result }
+    ensures same { disk.new ≡ record disk.old { disk = disk.new.disk } }
+    ensures calls { Sized (number_of S.File.raw_fd (file_at file disk.old)) result (S.calls system.old) (S.calls system.new) }
+{
+    let answer = match file {
+        0 => open_file::size(system, &disk.first),
+        _ => open_file::size(system, &disk.second),
+    };
+    counted(&mut disk.disk, answer)
+}
 
-    /// Reads a file from a place on, and says how many bytes. Zero into a nonempty buffer is the end of the file.
-    pub fn read(&mut self, file: u8, at: u64, buf: &mut [u8]) -> Result<usize, Failed>
-        ensures bound { IfOk result (λ n. n ≤ length buf.new) }
-        ensures cause { HasCause self.old.disk self.new.disk result }
-        ensures counted { Tallied self.old.disk self.new.disk result }
-        ensures shut { file_at file self.old ≡ None → IsErr result }
-        ensures same { self.new ≡ record self.old { disk = self.new.disk } }
-    {
-        let answer = match file {
-            0 => read(&self.first, at, buf),
-            _ => read(&self.second, at, buf),
-        };
-        counted(&mut self.disk, answer)
-    }
+/// Reads a file from a place on, and says how many bytes. Zero into a nonempty buffer is the end of the file.
+pub fn read<S: System>(
+    system: &mut S,
+    disk: &mut Disk<S::File>,
+    file: u8,
+    at: u64,
+    buf: &mut [u8],
+) -> Result<usize, Failed>
+    ensures bound { IfOk result (λ n. n ≤ length buf.new) }
+    ensures cause { HasCause disk.old.disk disk.new.disk result }
+    ensures counted { Tallied disk.old.disk disk.new.disk result }
+    ensures shut { file_at file disk.old ≡ None → IsErr result }
+    ensures same { disk.new ≡ record disk.old { disk = disk.new.disk } }
+    ensures calls { Reads (number_of S.File.raw_fd (file_at file disk.old)) at buf.new result (S.calls system.old) (S.calls system.new) }
+{
+    let answer = match file {
+        0 => open_file::read(system, &disk.first, at, buf),
+        _ => open_file::read(system, &disk.second, at, buf),
+    };
+    counted(&mut disk.disk, answer)
+}
 
-    /// Writes all bytes into a file from a place on.
-    pub fn write_at(&mut self, file: u8, at: u64, bytes: &[u8]) -> Result<(), Failed>
-        ensures cause { HasCause self.old.disk self.new.disk result }
-        ensures counted { Tallied self.old.disk self.new.disk result }
-        ensures shut { file_at file self.old ≡ None → IsErr result }
-        ensures same { self.new ≡ record self.old { disk = self.new.disk } }
-    {
-        let answer = match file {
-            0 => write(&self.first, at, bytes),
-            _ => write(&self.second, at, bytes),
-        };
-        counted(&mut self.disk, answer)
-    }
+/// Writes all bytes into a file from a place on.
+pub fn write_at<S: System>(
+    system: &mut S,
+    disk: &mut Disk<S::File>,
+    file: u8,
+    at: u64,
+    bytes: &[u8],
+) -> Result<(), Failed>
+    ensures cause { HasCause disk.old.disk disk.new.disk result }
+    ensures counted { Tallied disk.old.disk disk.new.disk result }
+    ensures shut { file_at file disk.old ≡ None → IsErr result }
+    ensures same { disk.new ≡ record disk.old { disk = disk.new.disk } }
+    ensures calls { Writes (number_of S.File.raw_fd (file_at file disk.old)) at bytes.now result (S.calls system.old) (S.calls system.new) }
+{
+    let answer = match file {
+        0 => open_file::write(system, &disk.first, at, bytes),
+        _ => open_file::write(system, &disk.second, at, bytes),
+    };
+    counted(&mut disk.disk, answer)
+}
 
-    /// Makes last what was written into a file, data and metadata. Once it failed, it fails until the files are opened again.
-    pub fn sync(&mut self, file: u8) -> Result<(), Failed>
-        ensures lost { is_lost (file_at file self.old) ≡ true → IsErr result }
-        ensures done { OnOk result (is_lost (file_at file self.new) ≡ false) }
-        ensures failed { OnErr result (is_lost (file_at file self.new) ≡ true) }
-        ensures other { other_at file self.new ≡ other_at file self.old }
-        ensures cause { HasCause self.old.disk self.new.disk result }
-        ensures counted { Tallied self.old.disk self.new.disk result }
-        ensures gate { self.new.gate ≡ self.old.gate }
-    {
-        let answer = match file {
-            0 => sync(&mut self.first),
-            _ => sync(&mut self.second),
-        };
-        counted(&mut self.disk, answer)
-    }
+/// Makes last what was written into a file, data and metadata. Once it failed, it fails until the files are opened again.
+pub fn sync<S: System>(system: &mut S, disk: &mut Disk<S::File>, file: u8) -> Result<(), Failed>
+    ensures lost { is_lost (file_at file disk.old) ≡ true → IsErr result × (S.calls system.new ≡ S.calls system.old) }
+    ensures done { OnOk result (is_lost (file_at file disk.new) ≡ false) }
+    ensures failed { OnErr result (is_lost (file_at file disk.new) ≡ true) }
+    ensures number { number_of S.File.raw_fd (file_at file disk.new) ≡ number_of S.File.raw_fd (file_at file disk.old) }
+    ensures other { other_at file disk.new ≡ other_at file disk.old }
+    ensures cause { HasCause disk.old.disk disk.new.disk result }
+    ensures counted { Tallied disk.old.disk disk.new.disk result }
+    ensures gate { disk.new.gate ≡ disk.old.gate }
+    ensures calls { Syncs (number_of S.File.raw_fd (file_at file disk.old)) result (S.calls system.old) (S.calls system.new) }
+{
+    let answer = match file {
+        0 => open_file::sync(system, &mut disk.first),
+        _ => open_file::sync(system, &mut disk.second),
+    };
+    counted(&mut disk.disk, answer)
+}
 
-    /// Writes the byte 1 into a file at a place, and makes that last. Where a sync of the file failed, it fails.
-    pub fn raise_gate(&mut self, file: u8, at: u64) -> Result<(), Failed>
-        ensures lost { is_lost (file_at file self.old) ≡ true → IsErr result × (is_lost (file_at file self.new) ≡ true) }
-        ensures done { OnOk result (is_lost (file_at file self.new) ≡ false) }
-        ensures other { other_at file self.new ≡ other_at file self.old }
-        ensures cause { HasCause self.old.gate self.new.gate result }
-        ensures counted { Tallied self.old.gate self.new.gate result }
-        ensures disk { self.new.disk ≡ self.old.disk }
-    {
-        let answer = match file {
-            0 => raise_gate(&mut self.first, at),
-            _ => raise_gate(&mut self.second, at),
-        };
-        counted(&mut self.gate, answer)
-    }
+/// Writes the byte 1 into a file at a place, and makes that last. Where a sync of the file failed, it fails.
+pub fn raise_gate<S: System>(
+    system: &mut S,
+    disk: &mut Disk<S::File>,
+    file: u8,
+    at: u64,
+) -> Result<(), Failed>
+    ensures lost { is_lost (file_at file disk.old) ≡ true → IsErr result × (is_lost (file_at file disk.new) ≡ true) }
+    ensures done { OnOk result (is_lost (file_at file disk.new) ≡ false) }
+    ensures number { number_of S.File.raw_fd (file_at file disk.new) ≡ number_of S.File.raw_fd (file_at file disk.old) }
+    ensures other { other_at file disk.new ≡ other_at file disk.old }
+    ensures cause { HasCause disk.old.gate disk.new.gate result }
+    ensures counted { Tallied disk.old.gate disk.new.gate result }
+    ensures disk { disk.new.disk ≡ disk.old.disk }
+    ensures calls { Raises (number_of S.File.raw_fd (file_at file disk.old)) at result (S.calls system.old) (S.calls system.new) }
+{
+    let answer = match file {
+        0 => open_file::raise_gate(system, &mut disk.first, at),
+        _ => open_file::raise_gate(system, &mut disk.second, at),
+    };
+    counted(&mut disk.gate, answer)
 }

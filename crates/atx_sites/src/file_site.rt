@@ -4,36 +4,37 @@ ghost use Rattle.std.specs.Prelude.{◌≡◌, ◌≤◌, ◌<◌, [], true, fal
 ghost use Rattle.site_model.specs.Calls.{Attaches, Gave, Looked, Raised, Received, Synced, Takes, Wrote};
 ghost use Rattle.site_model.specs.Told.{Files as Files_told, Is, file_of};
 ghost use Rattle.site_model.specs.Told.Call.{Post, Send};
-ghost use Rattle.atx_sites.specs.Disks.{file_at, is_lost, other_at, told_of};
+ghost use Rattle.atx_sites.specs.Disks.{IfHeld, file_at, other_at, told_of};
+ghost use Rattle.atx_sites.specs.FileCalls.{Raises, Reads, Sized, Syncs, Writes};
+ghost use Rattle.atx_sites.specs.Files.{is_lost, number_of};
 
-use crate::disk::Disk;
+use crate::disk::{self, Disk};
 use crate::faults::refused;
 use site_model::attachments::{Attachments, Given};
 use site_model::site::{AttachFailed, Site, Taken};
 use site_model::source::Failed;
-use std::fs::File;
-use std::rt::{Clock, Files};
+use system_calls::system::System;
 
 /// A machine with the files of a journal and a clock, and with no network: each call of it fails.
 #[derive(Drop)]
-pub struct FileSite<R: Files<File = File> + Clock + Drop> {
-    rt: R,
-    disk: Disk,
+pub struct FileSite<S: System + Drop> {
+    system: S,
+    disk: Disk<S::File>,
     accept: u64,
     receive: u64,
     link: u64,
     attached: Attachments,
 }
 
-impl<R: Files<File = File> + Clock + Drop> FileSite<R> {
+impl<S: System + Drop> FileSite<S> {
     /// No file is open, and nothing failed.
-    pub fn new(rt: R) -> FileSite<R>
+    pub fn new(system: S) -> FileSite<S>
         ensures disk { (result.disk.disk ≡ 0) × (result.disk.gate ≡ 0) }
         ensures network { (result.accept ≡ 0) × (result.receive ≡ 0) × (result.link ≡ 0) }
         ensures names { result.attached.names ≡ [] }
     {
         FileSite {
-            rt,
+            system,
             disk: Disk::new(),
             accept: 0,
             receive: 0,
@@ -43,7 +44,7 @@ impl<R: Files<File = File> + Clock + Drop> FileSite<R> {
     }
 }
 
-impl<R: Files<File = File> + Clock + Drop> Site for FileSite<R> {
+impl<S: System + Drop> Site for FileSite<S> {
     ghost told = { λ s. told_of s.disk s.accept s.receive s.link s.attached.names };
 
     ghost counts_now = { λ s l c is now. now };
@@ -52,11 +53,12 @@ impl<R: Files<File = File> + Clock + Drop> Site for FileSite<R> {
 
     /// Opens the files. There is no listener.
     fn attach(&mut self, journal: &str, listen: &str) -> Result<(), AttachFailed>
+        ensures system { IfHeld S.File.raw_fd journal.now result self.new.disk (S.calls self.old.system) (S.calls self.new.system) }
         ensures sure { OnOk result ((is_lost self.new.disk.first ≡ false) × (is_lost self.new.disk.second ≡ false)) }
         ensures shut { OnErr result ((is_lost self.new.disk.first ≡ true) × (is_lost self.new.disk.second ≡ true)) }
         ensures call { Attaches journal.now listen.now result (told_of self.old.disk self.old.accept self.old.receive self.old.link self.old.attached.names) (told_of self.new.disk self.new.accept self.new.receive self.new.link self.new.attached.names) }
     {
-        match self.disk.open(&self.rt, journal) {
+        match disk::open(&mut self.system, &mut self.disk, journal) {
             Ok(()) => {
                 self.attached = self.attached.and(&Given { journal, listen });
                 Ok(())
@@ -66,14 +68,16 @@ impl<R: Files<File = File> + Clock + Drop> Site for FileSite<R> {
     }
 
     fn size(&mut self, file: u8) -> Result<u64, Failed>
+        ensures system { Sized (number_of S.File.raw_fd (file_at file self.old.disk)) result (S.calls self.old.system) (S.calls self.new.system) }
         ensures shut { file_at file self.old.disk ≡ None → IsErr result }
         ensures is { IfOk result (λ n. (f : Files_told) → Is (told_of self.old.disk self.old.accept self.old.receive self.old.link self.old.attached.names).files f → n ≡ length (file_of file f)) }
         ensures call { Looked result (told_of self.old.disk self.old.accept self.old.receive self.old.link self.old.attached.names) (told_of self.new.disk self.new.accept self.new.receive self.new.link self.new.attached.names) }
     {
-        self.disk.size(file)
+        disk::size(&mut self.system, &mut self.disk, file)
     }
 
     fn read(&mut self, file: u8, at: u64, buf: &mut [u8]) -> Result<usize, Failed>
+        ensures system { Reads (number_of S.File.raw_fd (file_at file self.old.disk)) at buf.new result (S.calls self.old.system) (S.calls self.new.system) }
         ensures shut { file_at file self.old.disk ≡ None → IsErr result }
         ensures bound { IfOk result (λ n. n ≤ length buf.new) }
         ensures same_length { length buf.new ≡ length buf.old }
@@ -81,34 +85,37 @@ impl<R: Files<File = File> + Clock + Drop> Site for FileSite<R> {
         ensures end { IfOk result (λ n. (f : Files_told) → Is (told_of self.old.disk self.old.accept self.old.receive self.old.link self.old.attached.names).files f → n ≡ 0 → 0 < length buf.old → length (file_of file f) ≤ at) }
         ensures call { Looked result (told_of self.old.disk self.old.accept self.old.receive self.old.link self.old.attached.names) (told_of self.new.disk self.new.accept self.new.receive self.new.link self.new.attached.names) }
     {
-        self.disk.read(file, at, buf)
+        disk::read(&mut self.system, &mut self.disk, file, at, buf)
     }
 
     #[tactic(auto, using(crate::proofs::SilentMachines::wrote))]
     fn write_at(&mut self, file: u8, at: u64, bytes: &[u8]) -> Result<(), Failed>
+        ensures system { Writes (number_of S.File.raw_fd (file_at file self.old.disk)) at bytes.now result (S.calls self.old.system) (S.calls self.new.system) }
         ensures shut { file_at file self.old.disk ≡ None → IsErr result }
         ensures call { Wrote file at bytes.now result (told_of self.old.disk self.old.accept self.old.receive self.old.link self.old.attached.names) (told_of self.new.disk self.new.accept self.new.receive self.new.link self.new.attached.names) }
     {
-        self.disk.write_at(file, at, bytes)
+        disk::write_at(&mut self.system, &mut self.disk, file, at, bytes)
     }
 
     #[tactic(auto, using(crate::proofs::SilentMachines::synced))]
     fn sync(&mut self, file: u8) -> Result<(), Failed>
+        ensures system { Syncs (number_of S.File.raw_fd (file_at file self.old.disk)) result (S.calls self.old.system) (S.calls self.new.system) }
         ensures lost { is_lost (file_at file self.old.disk) ≡ true → IsErr result }
         ensures failed { OnErr result (is_lost (file_at file self.new.disk) ≡ true) }
         ensures other { other_at file self.new.disk ≡ other_at file self.old.disk }
         ensures call { Synced file result (told_of self.old.disk self.old.accept self.old.receive self.old.link self.old.attached.names) (told_of self.new.disk self.new.accept self.new.receive self.new.link self.new.attached.names) }
     {
-        self.disk.sync(file)
+        disk::sync(&mut self.system, &mut self.disk, file)
     }
 
     #[tactic(auto, using(crate::proofs::SilentMachines::raised))]
     fn raise_gate(&mut self, file: u8, at: u64) -> Result<(), Failed>
+        ensures system { Raises (number_of S.File.raw_fd (file_at file self.old.disk)) at result (S.calls self.old.system) (S.calls self.new.system) }
         ensures lost { is_lost (file_at file self.old.disk) ≡ true → IsErr result }
         ensures other { other_at file self.new.disk ≡ other_at file self.old.disk }
         ensures call { Raised file at result (told_of self.old.disk self.old.accept self.old.receive self.old.link self.old.attached.names) (told_of self.new.disk self.new.accept self.new.receive self.new.link self.new.attached.names) }
     {
-        self.disk.raise_gate(file, at)
+        disk::raise_gate(&mut self.system, &mut self.disk, file, at)
     }
 
     fn take(&mut self) -> Result<Taken, Failed>
@@ -145,7 +152,7 @@ impl<R: Files<File = File> + Clock + Drop> Site for FileSite<R> {
     }
 
     fn now(&mut self) -> u64 {
-        match self.rt.monotonic() {
+        match self.system.monotonic() {
             Ok(time) => u64::try_from(time.as_millis()).unwrap_or(u64::MAX),
             Err(_) => 0,
         }

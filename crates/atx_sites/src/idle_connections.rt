@@ -1,10 +1,10 @@
 //! Connections that were accepted and sent nothing yet.
 
-use libc::net::{POLLIN, poll};
+use libc::net::POLLIN;
 use libc::types::pollfd;
 use std::io::{self, ErrorKind};
-use std::net::{TcpListener, TcpStream};
 use std::os::fd::AsRawFd;
+use system_calls::system::System;
 
 /// The most connections that are kept without a byte of theirs.
 const IDLE: usize = 16;
@@ -15,8 +15,8 @@ const FULL_MILLIS: i32 = 100;
 /// Connections that were accepted and sent nothing yet. A peer that stays silent takes one of their places, and holds
 /// nobody else up; where no place is free, one of them is closed every 100 milliseconds.
 #[derive(Drop)]
-pub(crate) struct Idle {
-    streams: [Option<TcpStream>; IDLE],
+pub(crate) struct Idle<C> {
+    streams: [Option<C>; IDLE],
     next: usize,
 }
 
@@ -44,8 +44,8 @@ fn is_passing(kind: ErrorKind) -> bool {
     )
 }
 
-impl Idle {
-    pub(crate) fn new() -> Idle {
+impl<C: AsRawFd + Drop> Idle<C> {
+    pub(crate) fn new() -> Idle<C> {
         Idle {
             streams: [
                 None, None, None, None, None, None, None, None, None, None, None, None, None, None,
@@ -66,7 +66,7 @@ impl Idle {
     }
 
     /// The first of them that has something to read, or has ended.
-    fn ready(&mut self, asks: &[pollfd; IDLE + 1]) -> Option<TcpStream> {
+    fn ready(&mut self, asks: &[pollfd; IDLE + 1]) -> Option<C> {
         for (slot, ask) in self.streams.iter_mut().zip(asks.iter()) {
             if ask.revents != 0 {
                 return slot.take();
@@ -74,50 +74,55 @@ impl Idle {
         }
         None
     }
+}
 
-    /// Waits until one of them is ready, or until one more is accepted, which comes to this place. It is a free one.
-    fn wait_beside(
-        &mut self,
-        listener: &TcpListener,
-        place: usize,
-    ) -> io::Result<Option<TcpStream>> {
-        let mut asks = self.asks();
-        asks[IDLE] = asked(listener.as_raw_fd());
-        poll(&mut asks, -1);
-        let ready = self.ready(&asks);
-        if ready.is_none() && asks[IDLE].revents != 0 {
-            match listener.accept() {
-                Ok((stream, _)) => self.streams[place % IDLE] = Some(stream),
-                Err(fault) if is_passing(fault.kind()) => {}
-                Err(fault) => return Err(fault),
-            }
+/// Waits until one of them is ready, or until one more is accepted, which comes to this place. It is a free one.
+fn wait_beside<S: System>(
+    system: &mut S,
+    idle: &mut Idle<S::Stream>,
+    listener: &S::Listener,
+    place: usize,
+) -> io::Result<Option<S::Stream>> {
+    let mut asks = idle.asks();
+    asks[IDLE] = asked(listener.as_raw_fd());
+    system.poll(&mut asks, -1);
+    let ready = idle.ready(&asks);
+    if ready.is_none() && asks[IDLE].revents != 0 {
+        match system.accept(listener) {
+            Ok(stream) => idle.streams[place % IDLE] = Some(stream),
+            Err(fault) if is_passing(fault.kind()) => {}
+            Err(fault) => return Err(fault),
         }
-        Ok(ready)
     }
+    Ok(ready)
+}
 
-    /// Waits a little for one of them; where none is ready, one is closed, each in its turn.
-    fn wait_full(&mut self) -> Option<TcpStream> {
-        let mut asks = self.asks();
-        poll(&mut asks, FULL_MILLIS);
-        let ready = self.ready(&asks);
-        if ready.is_none() {
-            self.next = self.next.wrapping_add(1) % IDLE;
-            self.streams[self.next] = None;
-        }
-        ready
+/// Waits a little for one of them; where none is ready, one is closed, each in its turn.
+fn wait_full<S: System>(system: &mut S, idle: &mut Idle<S::Stream>) -> Option<S::Stream> {
+    let mut asks = idle.asks();
+    system.poll(&mut asks, FULL_MILLIS);
+    let ready = idle.ready(&asks);
+    if ready.is_none() {
+        idle.next = idle.next.wrapping_add(1) % IDLE;
+        idle.streams[idle.next] = None;
     }
+    ready
+}
 
-    /// Waits for a connection that has something to read, or has ended. The listener doesn't block.
-    pub(crate) fn wait(&mut self, listener: &TcpListener) -> io::Result<TcpStream> {
-        for _ in 0..u64::MAX {
-            let ready = match self.streams.iter().position(|stream| stream.is_none()) {
-                Some(place) => self.wait_beside(listener, place)?,
-                None => self.wait_full(),
-            };
-            if let Some(stream) = ready {
-                return Ok(stream);
-            }
+/// Waits for a connection that has something to read, or has ended. The listener doesn't block.
+pub(crate) fn wait<S: System>(
+    system: &mut S,
+    idle: &mut Idle<S::Stream>,
+    listener: &S::Listener,
+) -> io::Result<S::Stream> {
+    for _ in 0..u64::MAX {
+        let ready = match idle.streams.iter().position(|stream| stream.is_none()) {
+            Some(place) => wait_beside(system, idle, listener, place)?,
+            None => wait_full(system, idle),
+        };
+        if let Some(stream) = ready {
+            return Ok(stream);
         }
-        Err(ErrorKind::TimedOut.into())
     }
+    Err(ErrorKind::TimedOut.into())
 }

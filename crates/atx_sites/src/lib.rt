@@ -1,13 +1,13 @@
-//! A node's real machine: its two files, its listener and connection, its posts and its clock.
+//! A node's machine over the system: its files, its listener and connections, its posts and its clock.
 #![tactic(auto)]
 
 pub mod connection;
 mod deadlines;
 pub mod disk;
-pub mod faults;
+mod faults;
 pub mod file_site;
 mod idle_connections;
-pub mod names;
+mod names;
 pub mod node_site;
 pub mod open_file;
 mod posts;

@@ -1,6 +1,7 @@
 //! The names of a journal's files.
 
 ghost use Rattle.std.specs.Prelude.{◌≡◌, ◌++◌, IfSome, codes};
+ghost use Rattle.atx_sites.specs.FileCalls.{IsFolderOf};
 
 use std::str;
 
@@ -21,10 +22,11 @@ pub(crate) fn second_name<'a>(buf: &'a mut [u8; 4096], journal: &str) -> Option<
 }
 
 /// The folder in which a file of that name stands.
-pub(crate) fn folder_of(name: &str) -> &str {
+pub(crate) fn folder_of(name: &str) -> &str
+    ensures { IsFolderOf name.now result.now }
+{
     match name.rsplit_once('/') {
-        Some(("", _)) => "/",
-        Some((folder, _)) => folder,
+        Some((folder, _)) => { if folder.is_empty() { "/" } else { folder } }
         None => ".",
     }
 }

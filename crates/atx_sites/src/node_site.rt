@@ -6,19 +6,20 @@ ghost use Rattle.site_model.specs.Counts.{capped};
 ghost use Rattle.site_model.specs.Told.{Files as Files_told, Is, file_of};
 ghost use Rattle.site_model.specs.Told.Call.{Post, Send};
 ghost use Rattle.site_model.specs.declared.site.Taken.TheVariants.{Opened};
-ghost use Rattle.atx_sites.specs.Disks.{Tallied, file_at, is_lost, other_at};
-ghost use Rattle.atx_sites.specs.Networks.{Attempted, told_with};
+ghost use Rattle.atx_sites.specs.Disks.{Tallied, file_at, other_at};
+ghost use Rattle.atx_sites.specs.FileCalls.{Raises, Reads, Sized, Syncs, Writes};
+ghost use Rattle.atx_sites.specs.Files.{is_lost, number_of};
+ghost use Rattle.atx_sites.specs.LinkCalls.{number_at};
+ghost use Rattle.atx_sites.specs.Networks.{Attempted, IfAttached, told_with};
 
-use crate::connection::Connection;
-use crate::disk::Disk;
+use crate::connection::{self, Connection};
+use crate::disk::{self, Disk};
 use crate::faults::counted;
-use crate::posts::Posted;
+use crate::posts::{self, Posted};
 use site_model::attachments::{Attachments, Given};
 use site_model::site::{AttachFailed, Site, Taken};
 use site_model::source::Failed;
-use std::fs::File;
-use std::net::{Net, TcpListener, TcpStream};
-use std::rt::{Clock, Files};
+use system_calls::system::System;
 
 /// The machine of a node that serves.
 ///
@@ -28,13 +29,11 @@ use std::rt::{Clock, Files};
 /// each address of the host to accept, and 5 for its bytes; the answer isn't looked at. No other call waits for a peer, but
 /// the name of a host is looked up without a limit: give nodes by IP addresses, or by names that this machine knows.
 #[derive(Drop)]
-pub struct NodeSite<
-    R: Files<File = File> + Net<Listener = TcpListener, Stream = TcpStream> + Clock + Drop,
-> {
-    rt: R,
-    disk: Disk,
-    connection: Connection,
-    posted: Posted,
+pub struct NodeSite<S: System + Drop> {
+    system: S,
+    disk: Disk<S::File>,
+    connection: Connection<S::Listener, S::Stream>,
+    posted: Posted<S::Stream>,
     accept: u64,
     receive: u64,
     link: u64,
@@ -42,18 +41,16 @@ pub struct NodeSite<
     attached: Attachments,
 }
 
-impl<
-    R: Files<File = File> + Net<Listener = TcpListener, Stream = TcpStream> + Clock + Drop,
-> NodeSite<R> {
+impl<S: System + Drop> NodeSite<S> {
     /// No file is open, nothing listens, and nothing failed.
-    pub fn new(rt: R) -> NodeSite<R>
+    pub fn new(system: S) -> NodeSite<S>
         ensures disk { (result.disk.disk ≡ 0) × (result.disk.gate ≡ 0) }
         ensures network { (result.accept ≡ 0) × (result.receive ≡ 0) × (result.link ≡ 0) × (result.taken ≡ 0) }
         ensures shut { (result.connection.listener ≡ None) × (result.connection.served ≡ None) }
         ensures names { result.attached.names ≡ [] }
     {
         NodeSite {
-            rt,
+            system,
             disk: Disk::new(),
             connection: Connection::new(),
             posted: Posted::new(),
@@ -66,8 +63,7 @@ impl<
     }
 }
 
-impl<R: Files<File = File> + Net<Listener = TcpListener, Stream = TcpStream> + Clock + Drop> Site
-    for NodeSite<R> {
+impl<S: System + Drop> Site for NodeSite<S> {
     ghost told = { λ s. told_with s.disk s.accept s.receive s.link s.taken s.attached.names };
 
     ghost counts_now = { λ s l c is now. now };
@@ -76,14 +72,16 @@ impl<R: Files<File = File> + Net<Listener = TcpListener, Stream = TcpStream> + C
 
     /// Opens the files, and then the listener.
     fn attach(&mut self, journal: &str, listen: &str) -> Result<(), AttachFailed>
+        ensures system { IfAttached S.File.raw_fd journal.now listen.now result self.new.disk (number_at S.Listener.raw_fd self.new.connection.listener) (S.calls self.old.system) (S.calls self.new.system) }
         ensures sure { OnOk result ((is_lost self.new.disk.first ≡ false) × (is_lost self.new.disk.second ≡ false)) }
         ensures tallied { Attempted self.old.disk.disk self.old.accept self.new.disk.disk self.new.accept result }
         ensures call { Attaches journal.now listen.now result (told_with self.old.disk self.old.accept self.old.receive self.old.link self.old.taken self.old.attached.names) (told_with self.new.disk self.new.accept self.new.receive self.new.link self.new.taken self.new.attached.names) }
     {
-        if self.disk.open(&self.rt, journal).is_err() {
+        if disk::open(&mut self.system, &mut self.disk, journal).is_err() {
             return Err(AttachFailed::Disk);
         }
-        match counted(&mut self.accept, self.connection.listen(&self.rt, listen)) {
+        let listening = connection::listen(&mut self.system, &mut self.connection, listen);
+        match counted(&mut self.accept, listening) {
             Ok(()) => {
                 self.attached = self.attached.and(&Given { journal, listen });
                 Ok(())
@@ -93,15 +91,17 @@ impl<R: Files<File = File> + Net<Listener = TcpListener, Stream = TcpStream> + C
     }
 
     fn size(&mut self, file: u8) -> Result<u64, Failed>
+        ensures system { Sized (number_of S.File.raw_fd (file_at file self.old.disk)) result (S.calls self.old.system) (S.calls self.new.system) }
         ensures shut { file_at file self.old.disk ≡ None → IsErr result }
         ensures tallied { Tallied self.old.disk.disk self.new.disk.disk result }
         ensures is { IfOk result (λ n. (f : Files_told) → Is (told_with self.old.disk self.old.accept self.old.receive self.old.link self.old.taken self.old.attached.names).files f → n ≡ length (file_of file f)) }
         ensures call { Looked result (told_with self.old.disk self.old.accept self.old.receive self.old.link self.old.taken self.old.attached.names) (told_with self.new.disk self.new.accept self.new.receive self.new.link self.new.taken self.new.attached.names) }
     {
-        self.disk.size(file)
+        disk::size(&mut self.system, &mut self.disk, file)
     }
 
     fn read(&mut self, file: u8, at: u64, buf: &mut [u8]) -> Result<usize, Failed>
+        ensures system { Reads (number_of S.File.raw_fd (file_at file self.old.disk)) at buf.new result (S.calls self.old.system) (S.calls self.new.system) }
         ensures shut { file_at file self.old.disk ≡ None → IsErr result }
         ensures tallied { Tallied self.old.disk.disk self.new.disk.disk result }
         ensures bound { IfOk result (λ n. n ≤ length buf.new) }
@@ -110,37 +110,40 @@ impl<R: Files<File = File> + Net<Listener = TcpListener, Stream = TcpStream> + C
         ensures end { IfOk result (λ n. (f : Files_told) → Is (told_with self.old.disk self.old.accept self.old.receive self.old.link self.old.taken self.old.attached.names).files f → n ≡ 0 → 0 < length buf.old → length (file_of file f) ≤ at) }
         ensures call { Looked result (told_with self.old.disk self.old.accept self.old.receive self.old.link self.old.taken self.old.attached.names) (told_with self.new.disk self.new.accept self.new.receive self.new.link self.new.taken self.new.attached.names) }
     {
-        self.disk.read(file, at, buf)
+        disk::read(&mut self.system, &mut self.disk, file, at, buf)
     }
 
     #[tactic(auto, using(crate::proofs::SilentMachines::wrote))]
     fn write_at(&mut self, file: u8, at: u64, bytes: &[u8]) -> Result<(), Failed>
+        ensures system { Writes (number_of S.File.raw_fd (file_at file self.old.disk)) at bytes.now result (S.calls self.old.system) (S.calls self.new.system) }
         ensures shut { file_at file self.old.disk ≡ None → IsErr result }
         ensures tallied { Tallied self.old.disk.disk self.new.disk.disk result }
         ensures call { Wrote file at bytes.now result (told_with self.old.disk self.old.accept self.old.receive self.old.link self.old.taken self.old.attached.names) (told_with self.new.disk self.new.accept self.new.receive self.new.link self.new.taken self.new.attached.names) }
     {
-        self.disk.write_at(file, at, bytes)
+        disk::write_at(&mut self.system, &mut self.disk, file, at, bytes)
     }
 
     #[tactic(auto, using(crate::proofs::SilentMachines::synced))]
     fn sync(&mut self, file: u8) -> Result<(), Failed>
+        ensures system { Syncs (number_of S.File.raw_fd (file_at file self.old.disk)) result (S.calls self.old.system) (S.calls self.new.system) }
         ensures lost { is_lost (file_at file self.old.disk) ≡ true → IsErr result }
         ensures failed { OnErr result (is_lost (file_at file self.new.disk) ≡ true) }
         ensures other { other_at file self.new.disk ≡ other_at file self.old.disk }
         ensures tallied { Tallied self.old.disk.disk self.new.disk.disk result }
         ensures call { Synced file result (told_with self.old.disk self.old.accept self.old.receive self.old.link self.old.taken self.old.attached.names) (told_with self.new.disk self.new.accept self.new.receive self.new.link self.new.taken self.new.attached.names) }
     {
-        self.disk.sync(file)
+        disk::sync(&mut self.system, &mut self.disk, file)
     }
 
     #[tactic(auto, using(crate::proofs::SilentMachines::raised))]
     fn raise_gate(&mut self, file: u8, at: u64) -> Result<(), Failed>
+        ensures system { Raises (number_of S.File.raw_fd (file_at file self.old.disk)) at result (S.calls self.old.system) (S.calls self.new.system) }
         ensures lost { is_lost (file_at file self.old.disk) ≡ true → IsErr result }
         ensures other { other_at file self.new.disk ≡ other_at file self.old.disk }
         ensures tallied { Tallied self.old.disk.gate self.new.disk.gate result }
         ensures call { Raised file at result (told_with self.old.disk self.old.accept self.old.receive self.old.link self.old.taken self.old.attached.names) (told_with self.new.disk self.new.accept self.new.receive self.new.link self.new.taken self.new.attached.names) }
     {
-        self.disk.raise_gate(file, at)
+        disk::raise_gate(&mut self.system, &mut self.disk, file, at)
     }
 
     fn take(&mut self) -> Result<Taken, Failed>
@@ -150,9 +153,10 @@ impl<R: Files<File = File> + Net<Listener = TcpListener, Stream = TcpStream> + C
         ensures tallied { Tallied self.old.accept self.new.accept result }
         ensures call { Takes result (told_with self.old.disk self.old.accept self.old.receive self.old.link self.old.taken self.old.attached.names) (told_with self.new.disk self.new.accept self.new.receive self.new.link self.new.taken self.new.attached.names) }
     {
-        self.posted.settle();
+        posts::settle(&mut self.system, &mut self.posted);
         self.posted.forgive();
-        match counted(&mut self.accept, self.connection.take(&self.rt)) {
+        let opened = connection::take(&mut self.system, &mut self.connection);
+        match counted(&mut self.accept, opened) {
             Ok(()) => {
                 self.taken = self.taken.saturating_add(1);
                 Ok(Taken::Opened)
@@ -167,7 +171,10 @@ impl<R: Files<File = File> + Net<Listener = TcpListener, Stream = TcpStream> + C
         ensures same_length { length buf.new ≡ length buf.old }
         ensures call { Received result buf.new (told_with self.old.disk self.old.accept self.old.receive self.old.link self.old.taken self.old.attached.names) (told_with self.new.disk self.new.accept self.new.receive self.new.link self.new.taken self.new.attached.names) }
     {
-        counted(&mut self.receive, self.connection.receive(&self.rt, buf))
+        counted(
+            &mut self.receive,
+            connection::receive(&mut self.system, &self.connection, buf),
+        )
     }
 
     #[tactic(auto, using(crate::proofs::SilentMachines::gave))]
@@ -176,7 +183,10 @@ impl<R: Files<File = File> + Net<Listener = TcpListener, Stream = TcpStream> + C
         ensures tallied { Tallied self.old.link self.new.link result }
         ensures call { Gave (Send bytes.now) result (told_with self.old.disk self.old.accept self.old.receive self.old.link self.old.taken self.old.attached.names) (told_with self.new.disk self.new.accept self.new.receive self.new.link self.new.taken self.new.attached.names) }
     {
-        counted(&mut self.link, self.connection.send(&self.rt, bytes))
+        counted(
+            &mut self.link,
+            connection::send(&mut self.system, &self.connection, bytes),
+        )
     }
 
     fn close(&mut self)
@@ -184,7 +194,7 @@ impl<R: Files<File = File> + Net<Listener = TcpListener, Stream = TcpStream> + C
         ensures same { (self.new.connection.listener ≡ self.old.connection.listener) × (self.new.disk ≡ self.old.disk) }
         ensures call { Closes (told_with self.old.disk self.old.accept self.old.receive self.old.link self.old.taken self.old.attached.names) (told_with self.new.disk self.new.accept self.new.receive self.new.link self.new.taken self.new.attached.names) }
     {
-        self.connection.close(&self.rt);
+        connection::close(&mut self.system, &mut self.connection);
     }
 
     #[tactic(auto, using(crate::proofs::SilentMachines::gave))]
@@ -192,12 +202,12 @@ impl<R: Files<File = File> + Net<Listener = TcpListener, Stream = TcpStream> + C
         ensures tallied { Tallied self.old.link self.new.link result }
         ensures call { Gave (Post host.now port bytes.now) result (told_with self.old.disk self.old.accept self.old.receive self.old.link self.old.taken self.old.attached.names) (told_with self.new.disk self.new.accept self.new.receive self.new.link self.new.taken self.new.attached.names) }
     {
-        let answer = self.posted.post(&self.rt, host, port, bytes);
+        let answer = posts::post(&mut self.system, &mut self.posted, host, port, bytes);
         counted(&mut self.link, answer)
     }
 
     fn now(&mut self) -> u64 {
-        match self.rt.monotonic() {
+        match self.system.monotonic() {
             Ok(time) => u64::try_from(time.as_millis()).unwrap_or(u64::MAX),
             Err(_) => 0,
         }

@@ -1,106 +1,172 @@
 //! An open file.
 
-ghost use Rattle.std.specs.Prelude.{◌≡◌, true, false, None, IfOk, IsErr, OnOk, OnErr};
+ghost use Rattle.std.specs.Prelude.{◌≡◌, [], ◌∷◌, true, false, None, IfOk, IsErr, OnOk, OnErr};
 ghost use Rattle.std.specs.Io.{ReadsAtMost};
-ghost use Rattle.atx_sites.specs.Disks.{is_lost};
+ghost use Rattle.atx_sites.specs.Files.{is_lost, number_of};
+ghost use Rattle.atx_sites.specs.FileCalls.{IfOpened, IfTaken, IfAlone, IfSynced, Sized, Reads, Writes, Syncs, Raises};
 
-use std::fs::{File, OpenOptions};
 use std::io::{self, ErrorKind};
 use std::os::fd::AsRawFd;
-use std::os::unix::fs::FileExt;
-use std::rt::Files;
+use system_calls::system::System;
 
 /// A file that this process alone has open. Once a sync of it failed it `is_lost`: the system may have forgotten what it
 /// couldn't write, and a later sync would say nothing of that.
 #[derive(Drop)]
-pub struct Held {
-    pub(crate) file: File,
+pub struct Held<F> {
+    pub(crate) file: F,
     pub(crate) is_lost: bool,
 }
 
 /// Opens a file for reading and writing, and makes it where it isn't there. What is meant for a standard stream that was
 /// closed doesn't land in it.
-fn open<R: Files<File = File>>(rt: &R, name: &str) -> io::Result<File> {
-    let file = OpenOptions::new()
-        .read(true)
-        .write(true)
-        .create(true)
-        .open(rt, name)?;
+fn open<S: System>(system: &mut S, name: &str) -> io::Result<S::File>
+    ensures { IfOpened S.File.raw_fd name.now result (S.calls system.old) (S.calls system.new) }
+{
+    let file = system.open(name)?;
     if file.as_raw_fd() <= 2 {
-        file.try_clone()
+        system.duplicate(&file)
     } else {
         Ok(file)
     }
 }
 
-/// Makes a file last, and has it read from the disk from now on: an earlier process may have had a sync that failed.
-fn settled(file: File) -> io::Result<Held>
-    ensures { IfOk result (λ h. h.is_lost ≡ false) }
+/// Takes a regular file that no other process holds: locks it, makes it last, and has it read from the disk from now on, as
+/// an earlier process may have had a sync that failed.
+fn take<S: System>(system: &mut S, file: &S::File) -> io::Result<()>
+    ensures { IfTaken (S.File.raw_fd file.now) result (S.calls system.old) (S.calls system.new) }
 {
-    file.sync_all()?;
-    match libc::posix_fadvise(file.as_raw_fd(), 0, 0, libc::POSIX_FADV_DONTNEED) {
-        0 => Ok(Held {
-            file,
-            is_lost: false,
-        }),
-        fault => Err(io::Error::from_raw_os_error(fault)),
+    if !system.examine(file)?.is_file {
+        return Err(ErrorKind::Unsupported.into());
     }
+    system.lock(file)?;
+    system.sync(file)?;
+    system.forget(file)
 }
 
 /// Opens a regular file that no other process holds.
-pub(crate) fn open_alone<R: Files<File = File>>(rt: &R, name: &str) -> io::Result<Held>
-    ensures { IfOk result (λ h. h.is_lost ≡ false) }
+pub(crate) fn open_alone<S: System>(system: &mut S, name: &str) -> io::Result<Held<S::File>>
+    ensures sure { IfOk result (λ h. h.is_lost ≡ false) }
+    ensures calls { IfAlone S.File.raw_fd name.now result (S.calls system.old) (S.calls system.new) }
 {
-    let file = open(rt, name)?;
-    if !file.metadata()?.is_file() {
-        return Err(ErrorKind::Unsupported.into());
+    let file = open(system, name)?;
+    take(system, &file)?;
+    Ok(Held {
+        file,
+        is_lost: false,
+    })
+}
+
+/// Makes last which files a folder has.
+pub(crate) fn sync_folder<S: System>(system: &mut S, name: &str) -> io::Result<()>
+    ensures { IfSynced name.now result (S.calls system.old) (S.calls system.new) }
+{
+    let folder = system.open_folder(name)?;
+    match system.sync(&folder) {
+        Ok(()) => Ok(()),
+        Err(fault) => Err(fault),
     }
-    file.try_lock()?;
-    settled(file)
 }
 
 /// The bytes of a file.
-pub(crate) fn size(held: &Option<Held>) -> io::Result<u64>
-    ensures { held.now ≡ None → IsErr result }
-{
-    match held {
-        Some(held) => Ok(held.file.metadata()?.len()),
-        None => Err(ErrorKind::NotFound.into()),
-    }
-}
-
-/// Reads from a place on, and says how many bytes. Zero into a nonempty buffer is the end of the file.
-pub(crate) fn read(held: &Option<Held>, at: u64, buf: &mut [u8]) -> io::Result<usize>
-    ensures bound { ReadsAtMost result buf.new }
+pub(crate) fn size<S: System>(system: &mut S, held: &Option<Held<S::File>>) -> io::Result<u64>
     ensures shut { held.now ≡ None → IsErr result }
+    ensures calls { Sized (number_of S.File.raw_fd held.now) result (S.calls system.old) (S.calls system.new) }
 {
     let Some(held) = held else {
         return Err(ErrorKind::NotFound.into());
     };
-    for _ in 0..u16::MAX {
-        match held.file.read_at(buf, at) {
+    match system.examine(&held.file) {
+        Ok(stat) => Ok(stat.bytes),
+        Err(fault) => Err(fault),
+    }
+}
+
+/// Reads from a place on, and says how many bytes. What a signal interrupted is tried again.
+#[tactic(auto, using(crate::proofs::FilePieces::untried, crate::proofs::FilePieces::tried))]
+fn read_file<S: System>(
+    system: &mut S,
+    file: &S::File,
+    at: u64,
+    buf: &mut [u8],
+) -> io::Result<usize>
+    ensures bound { ReadsAtMost result buf.new }
+    ensures calls { Reads (S.File.raw_fd file.now) at buf.new result (S.calls system.old) (S.calls system.new) }
+{
+    'tries: for _ in 0..u16::MAX {
+        match system.read_at(file, buf, at) {
+            Ok(n) => return Ok(n),
             Err(fault) if fault.kind() == ErrorKind::Interrupted => {}
-            answer => return answer,
+            Err(fault) => return Err(fault),
+        }
+    }
+    Err(ErrorKind::Interrupted.into())
+}
+
+/// Reads from a place on, and says how many bytes. Zero into a nonempty buffer is the end of the file.
+#[tactic(auto, using(crate::proofs::FilePieces::untried))]
+pub(crate) fn read<S: System>(
+    system: &mut S,
+    held: &Option<Held<S::File>>,
+    at: u64,
+    buf: &mut [u8],
+) -> io::Result<usize>
+    ensures bound { ReadsAtMost result buf.new }
+    ensures shut { held.now ≡ None → IsErr result }
+    ensures calls { Reads (number_of S.File.raw_fd held.now) at buf.new result (S.calls system.old) (S.calls system.new) }
+{
+    match held {
+        Some(held) => read_file(system, &held.file, at, buf),
+        None => Err(ErrorKind::NotFound.into()),
+    }
+}
+
+/// Writes all bytes from a place on.
+#[tactic(auto, using(crate::proofs::FilePieces::unwritten, crate::proofs::FilePieces::some_unwritten, crate::proofs::FilePieces::some_written, crate::proofs::FilePieces::wrote_more, crate::proofs::FilePieces::wrote_none))]
+fn write_all<S: System>(system: &mut S, file: &S::File, at: u64, bytes: &[u8]) -> io::Result<()>
+    ensures { Writes (S.File.raw_fd file.now) at bytes.now result (S.calls system.old) (S.calls system.new) }
+{
+    let mut done = 0;
+    'pieces: for _ in 0..u32::MAX {
+        if done >= bytes.len() {
+            return Ok(());
+        }
+        let Some(place) = at.checked_add(done as u64) else {
+            return Err(ErrorKind::InvalidInput.into());
+        };
+        match system.write_at(file, &bytes[done..], place) {
+            Ok(0) => return Err(ErrorKind::WriteZero.into()),
+            Ok(n) => done += n,
+            Err(fault) if fault.kind() == ErrorKind::Interrupted => {}
+            Err(fault) => return Err(fault),
         }
     }
     Err(ErrorKind::Interrupted.into())
 }
 
 /// Writes all bytes from a place on.
-pub(crate) fn write(held: &Option<Held>, at: u64, bytes: &[u8]) -> io::Result<()>
-    ensures { held.now ≡ None → IsErr result }
+#[tactic(auto, using(crate::proofs::FilePieces::some_unwritten))]
+pub(crate) fn write<S: System>(
+    system: &mut S,
+    held: &Option<Held<S::File>>,
+    at: u64,
+    bytes: &[u8],
+) -> io::Result<()>
+    ensures shut { held.now ≡ None → IsErr result }
+    ensures calls { Writes (number_of S.File.raw_fd held.now) at bytes.now result (S.calls system.old) (S.calls system.new) }
 {
     match held {
-        Some(held) => held.file.write_all_at(bytes, at),
+        Some(held) => write_all(system, &held.file, at, bytes),
         None => Err(ErrorKind::NotFound.into()),
     }
 }
 
 /// Makes last what was written, data and metadata.
-pub(crate) fn sync(held: &mut Option<Held>) -> io::Result<()>
-    ensures lost { is_lost held.old ≡ true → IsErr result }
+pub(crate) fn sync<S: System>(system: &mut S, held: &mut Option<Held<S::File>>) -> io::Result<()>
+    ensures lost { is_lost held.old ≡ true → IsErr result × (S.calls system.new ≡ S.calls system.old) }
     ensures done { OnOk result (is_lost held.new ≡ false) }
     ensures failed { OnErr result (is_lost held.new ≡ true) }
+    ensures same { number_of S.File.raw_fd held.new ≡ number_of S.File.raw_fd held.old }
+    ensures calls { Syncs (number_of S.File.raw_fd held.old) result (S.calls system.old) (S.calls system.new) }
 {
     let Some(held) = held else {
         return Err(ErrorKind::NotFound.into());
@@ -108,18 +174,24 @@ pub(crate) fn sync(held: &mut Option<Held>) -> io::Result<()>
     if held.is_lost {
         return Err(ErrorKind::Other.into());
     }
-    let answer = held.file.sync_all();
+    let answer = system.sync(&held.file);
     held.is_lost = answer.is_err();
     answer
 }
 
 /// Writes the byte 1 at a place, and makes that last. Where the write failed there is no sync.
-pub(crate) fn raise_gate(held: &mut Option<Held>, at: u64) -> io::Result<()>
+pub(crate) fn raise_gate<S: System>(
+    system: &mut S,
+    held: &mut Option<Held<S::File>>,
+    at: u64,
+) -> io::Result<()>
     ensures lost { is_lost held.old ≡ true → IsErr result × (is_lost held.new ≡ true) }
     ensures done { OnOk result (is_lost held.new ≡ false) }
+    ensures same { number_of S.File.raw_fd held.new ≡ number_of S.File.raw_fd held.old }
+    ensures calls { Raises (number_of S.File.raw_fd held.old) at result (S.calls system.old) (S.calls system.new) }
 {
-    match write(held, at, &[1]) {
-        Ok(()) => sync(held),
+    match write(system, held, at, &[1]) {
+        Ok(()) => sync(system, held),
         Err(fault) => Err(fault),
     }
 }

@@ -1,6 +1,7 @@
 //! Two files on the disk.
 
 use atx_sites::file_site::FileSite;
+use real_system::real_system::RealSystem;
 use site_model::site::{AttachFailed, Site};
 use site_model::source::Failed;
 use std::path::PathBuf;
@@ -39,13 +40,13 @@ fn holds<S: Site>(site: &mut S, file: u8, at: u64, bytes: &[u8]) -> Result<bool,
 
 /// What was written stands there, also for a machine that comes later.
 fn keeps(rt: &HostRuntime, name: &str) -> Result<bool, Failed> {
-    let mut site = FileSite::new(rt);
+    let mut site = FileSite::new(RealSystem::new(rt));
     if site.attach(name, "").is_err() {
         return Err(Failed);
     }
     write(&mut site)?;
     drop(site);
-    let mut later = FileSite::new(rt);
+    let mut later = FileSite::new(RealSystem::new(rt));
     if later.attach(name, "").is_err() {
         return Err(Failed);
     }
@@ -66,8 +67,8 @@ fn what_is_written_is_read_later(rt: HostRuntime) -> Result<(), Fail> {
 
 /// While one machine has the files, another doesn't get them; nor does it read or write any.
 fn shuts_out(rt: &HostRuntime, name: &str) -> bool {
-    let mut site = FileSite::new(rt);
-    let mut other = FileSite::new(rt);
+    let mut site = FileSite::new(RealSystem::new(rt));
+    let mut other = FileSite::new(RealSystem::new(rt));
     let shut = other.size(0).is_err() && other.sync(1).is_err();
     let first = site.attach(name, "");
     let second = other.attach(name, "");

@@ -1,6 +1,7 @@
 //! Peers over the loopback: the same process connects, and then takes what it sent.
 
 use atx_sites::node_site::NodeSite;
+use real_system::real_system::RealSystem;
 use site_model::site::{AttachFailed, Site, Taken};
 use site_model::source::Failed;
 use std::io::{Read, Write};
@@ -153,7 +154,7 @@ fn attached(rt: &HostRuntime, test: &str, act: Act) -> io::Result<bool> {
     let name = name_of(rt, test)?;
     let port = free_port(rt)?;
     let address = address_of(rt, port)?;
-    let mut site = NodeSite::new(rt);
+    let mut site = NodeSite::new(RealSystem::new(rt));
     let shut = site.take().is_err();
     let opened = site.attach(name.as_str(), address.as_str()) == Ok(());
     let done = match act {
@@ -190,8 +191,8 @@ fn no_peer_holds_the_node(rt: HostRuntime) -> Result<(), Fail> {
 fn shuts_out(rt: &HostRuntime, name: &str, other_name: &str) -> io::Result<bool> {
     let port = free_port(rt)?;
     let address = address_of(rt, port)?;
-    let mut site = NodeSite::new(rt);
-    let mut other = NodeSite::new(rt);
+    let mut site = NodeSite::new(RealSystem::new(rt));
+    let mut other = NodeSite::new(RealSystem::new(rt));
     let first = site.attach(name, address.as_str());
     let same_files = other.attach(name, "127.0.0.1:0");
     let same_port = other.attach(other_name, address.as_str());

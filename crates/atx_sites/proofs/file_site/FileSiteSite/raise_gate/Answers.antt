@@ -1,0 +1,7 @@
+use Rattle.std.proofs.Common.{ap}
+use Rattle.atx_sites.specs.declared.disk.Disk.{Disk}
+use Rattle.atx_sites.proofs.SilentMachines.{raised, on_gate}
+use Rattle.atx_sites.proofs.file_site.FileSiteSite.raise_gate.Goals as goal
+
+pub returns-clause-call : goal.returns-clause-call
+returns-clause-call g c = raised _ _ _ _ _ (on_gate c.args.self.now.disk c.raise_gate.new.disk _ _ _ _ _ _ c.raise_gate.ensures.cause c.raise_gate.ensures.disk)

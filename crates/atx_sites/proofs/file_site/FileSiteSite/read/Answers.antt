@@ -1,0 +1,13 @@
+use Rattle.std.proofs.Common.{ap}
+use Rattle.atx_sites.specs.declared.disk.Disk.{Disk}
+use Rattle.atx_sites.proofs.SilentMachines.{looked, on_disk, untold_ok}
+use Rattle.atx_sites.proofs.file_site.FileSiteSite.read.Goals as goal
+
+pub returns-clause-is : goal.returns-clause-is
+returns-clause-is g c = untold_ok _ _
+
+pub returns-clause-end : goal.returns-clause-end
+returns-clause-end g c = untold_ok _ _
+
+pub returns-clause-call : goal.returns-clause-call
+returns-clause-call g c = looked _ _ _ (on_disk c.args.self.now.disk c.read.new.disk _ _ _ _ _ _ c.read.ensures.cause (ap (λ (d : Disk _). d.gate) c.read.ensures.same))

@@ -1,0 +1,7 @@
+use Rattle.std.proofs.Common.{ap}
+use Rattle.atx_sites.specs.declared.disk.Disk.{Disk}
+use Rattle.atx_sites.proofs.SilentMachines.{wrote, on_disk}
+use Rattle.atx_sites.proofs.file_site.FileSiteSite.write_at.Goals as goal
+
+pub returns-clause-call : goal.returns-clause-call
+returns-clause-call g c = wrote _ _ _ _ _ _ (on_disk c.args.self.now.disk c.write_at.new.disk _ _ _ _ _ _ c.write_at.ensures.cause (ap (λ (d : Disk _). d.gate) c.write_at.ensures.same))

@@ -1,0 +1,10 @@
+use Rattle.atx_sites.proofs.Receipts.{bounded, received}
+use Rattle.atx_sites.proofs.SilentMachines.{stays_err}
+use Rattle.atx_sites.proofs.node_site.NodeSiteSite.receive.Goals as goal
+
+pub returns-clause-shut : goal.returns-clause-shut
+returns-clause-shut g c h = stays_err _ _ c.counted.ensures.ok (c.receive.ensures.shut h)
+
+pub returns-clause-call : goal.returns-clause-call
+returns-clause-call g c =
+    received c.args.self.now.disk _ _ _ _ _ _ _ _ (bounded _ _ _ c.counted.ensures.ok c.receive.ensures.bound) c.counted.ensures.cause c.counted.ensures.exact
