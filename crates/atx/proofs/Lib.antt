@@ -1,2 +1,1 @@
 mod IteratorRest
-mod TopCalls

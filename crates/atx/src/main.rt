@@ -2,13 +2,12 @@
 #![tactic(auto)]
 
 mod standard_streams;
-mod top_call;
 mod words;
 
 use crate::standard_streams::{Reading, Writing};
-use crate::top_call::program;
+use crate::words::behind_name;
 use atx_sites::node_site::NodeSite;
-use command_line::run::{NO_JOB, NO_MEMORY};
+use command_line::run::{NO_JOB, NO_MEMORY, run};
 use real_system::real_system::RealSystem;
 use std::env;
 use std::io::ErrorKind;
@@ -20,8 +19,17 @@ fn main(rt: HostRuntime) -> ExitCode {
         Err(fault) if fault.kind() == ErrorKind::OutOfMemory => return ExitCode::from(NO_MEMORY),
         Err(_) => return ExitCode::from(NO_JOB),
     };
+    let Ok(words) = behind_name(rt.alloc(), args) else {
+        return ExitCode::from(NO_MEMORY);
+    };
     let mut source = Reading::new(rt.stdin());
     let mut sink = Writing::new(rt.stdout());
     let mut site = NodeSite::new(RealSystem::new(&rt));
-    ExitCode::from(program(rt.alloc(), args, &mut source, &mut sink, &mut site))
+    ExitCode::from(run(
+        rt.alloc(),
+        words.as_slice(),
+        &mut source,
+        &mut sink,
+        &mut site,
+    ))
 }

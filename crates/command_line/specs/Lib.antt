@@ -5,4 +5,3 @@ pub mod Summaries
 pub mod Views
 pub mod Ticks
 pub mod Servings
-pub mod TopCalls
