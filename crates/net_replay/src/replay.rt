@@ -2,10 +2,9 @@
 
 ghost use Rattle.std.specs.Prelude.{◌≡◌, ◌<◌, ◌^◌, IfErr, IfOk, List, Option, length, map};
 ghost use Rattle.memory_net.specs.Mails.{mail_of};
-ghost use Rattle.mirrored_nets.specs.declared.fault.Fault.TheVariants as faults;
 ghost use Rattle.net_replay.specs.MessageBytes.{shown};
 ghost use Rattle.net_replay.specs.NetReports.{HasNoRoom, IsCourseOf, IsNetReport, TakesTooManyEvents};
-ghost use Rattle.net_replay.specs.declared.replay_error.ReplayError.TheVariants.{Full, NoMemory, TooManyEvents};
+ghost use Rattle.net_replay.specs.declared.replay_error.ReplayError.TheVariants.{Full, TooManyEvents};
 ghost use Rattle.possible_courses.specs.ScheduleLines.{AreWithin};
 ghost use Rattle.raw_requests.specs.declared.Drawn.{Drawn as Drew};
 ghost use Rattle.replay_cmd.specs.Laws.{ComesToRest, IsReplayable, IsSafe};
@@ -74,19 +73,6 @@ fn print(
     shown(alloc, report, letters, bytes)
 }
 
-/// As what a run's fault is told: a journal that has no room is not want of memory.
-fn told_as(fault: Fault) -> ReplayError
-    requires { fault ≡ faults.Apart → ⊥ }
-    ensures full { fault ≡ faults.Full → result ≡ Full }
-    ensures memory { fault ≡ faults.NoMemory → result ≡ NoMemory }
-{
-    match fault {
-        Fault::NoMemory => ReplayError::NoMemory,
-        Fault::Full => ReplayError::Full,
-        Fault::Apart => unreachable!(),
-    }
-}
-
 #[tactic(auto, using(crate::proofs::ReportedNets::has_no_room, crate::proofs::ReportedNets::possible))]
 fn with_nodes(alloc: Global, schedule: &Schedule, options: Options) -> Result<Replayed, ReplayError>
     requires replayable { IsReplayable schedule.now }
@@ -107,7 +93,9 @@ fn with_nodes(alloc: Global, schedule: &Schedule, options: Options) -> Result<Re
     };
     let net = match followed(alloc, &course) {
         Ok(net) => net,
-        Err(fault) => return Err(told_as(fault)),
+        Err(Fault::NoMemory) => return Err(ReplayError::NoMemory),
+        Err(Fault::Full) => return Err(ReplayError::Full),
+        Err(Fault::Apart) => unreachable!(),
     };
     match print(alloc, course, net.letters(), options.bytes) {
         Ok(lines) => Ok(Replayed { lines, net }),
