@@ -80,6 +80,7 @@ pub(crate) fn attend<K: Sink, H: Site>(
     let service = Service {
         role: role_of(serving.role),
         listen: serving.listen,
+        base: serving.base,
         journal: serving.journal,
         limit: u32::MAX,
         lines,

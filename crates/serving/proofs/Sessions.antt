@@ -29,7 +29,7 @@ use Rattle.serving.specs.declared.service_end.Ended.{Ended}
 use Rattle.serving.specs.declared.service_end.Ended.TheVariants as endings
 use Rattle.serving.specs.declared.request.Request.{Request}
 use Rattle.serving.specs.declared.request.Request.TheVariants as requests
-use Rattle.serving.proofs.Places.{all_taken, around, rest_of, taken}
+use Rattle.serving.proofs.Places.{all_taken, around, line_not_found, rest_of, taken}
 
 pub asks : {S : Type 0} (told : S → Told) (role : Role) (r : Request) (l : Local) (a : Locally) (n m : State) (s t : S) → r ≡ requests.Local l → Asked a n m l (told s) (told t)
     → ((why : Refusal) → a ≡ locally.Refused why → t ≡ s) → Keeping (told s) (told t) → Does told role r (answers.Local a) n m s t
@@ -248,3 +248,36 @@ some_ended a b h = cc
 
 pub failed_later : (result : Option Ended) (e : Ended) (a b c : ℕ) → a ≤ b → result ≡ Some e → (result ≡ Some endings.SinkFailed → Rose b c) → e ≡ endings.SinkFailed → Rose a c
 failed_later result e a b c h is cause same = rose_later a b c h (cause (is ∙ ap Some same))
+
+-- behind the lines, turn after turn
+module _ {S : Type 0} (told : S → Told) (role : Role) (all : List InitiatorLine) (turned : ℕ) (n : State) (s : S) where
+  abbrev lines_and_turns : List InitiatorLine
+  lines_and_turns = all ++ replicate turned lines.Wait
+
+  pub so_far_lines : (place : ℕ) (made : List (Option Numbers)) (m : State) (t : S) (x y : Option (List ℕ)) → place ≤ length all → length all ≤ place
+      → SoFar told role (take place lines_and_turns) made n m s t x y → SoFar told role (take (length all + 0) lines_and_turns) made n m s t x y
+  so_far_lines place made m t x y within past h =
+      let last : place ≡ length all + 0 = omega (arith, within, past) in
+      subst (λ p. SoFar told role (take p lines_and_turns) made n m s t x y) last h
+
+  module _ (turn : ℕ) (less : turn < turned) (made later : List (Option Numbers)) (m k : State) (t u : S) (x y z : Option (List ℕ)) where
+    waits : line_at (length all + turn) all ≡ lines.Wait
+    waits = line_not_found (length all + turn) all (omega arith)
+
+    within : length all + turn < length all + turned
+    within = omega (arith, less)
+
+    pub so_far_turn : (other : Role) → other ≡ role → (result : Option Ended) → result ≡ None → SoFar told role (take (length all + turn) lines_and_turns) made n m s t x y
+        → Takes told other lines.Wait result made later m k t u y z → SoFar told role (take (length all + (turn + 1)) lines_and_turns) later n k s u x z
+    so_far_turn other same result e h took =
+        let next : length all + turn + 1 ≡ length all + (turn + 1) = omega arith in
+        subst (λ p. SoFar told role (take p lines_and_turns) later n k s u x z) next
+        (so_far_more_as told role all turned n s (length all + turn) within made later m k t u x y z other same result e h
+        (subst (λ l. Takes told other l result made later m k t u y z) (sym waits) took))
+
+    pub so_far_stop_turn : (other : Role) → other ≡ role → (result : Option Ended) (e : Ended) → result ≡ Some e
+        → SoFar told role (take (length all + turn) lines_and_turns) made n m s t x y → Takes told other lines.Wait result made later m k t u y z
+        → Prints (Attends told role lines_and_turns n s u) e x z
+    so_far_stop_turn other same result e is h took =
+        so_far_stop_as told role all turned n s u (length all + turn) within made later m k t x y z other same result e is h
+        (subst (λ l. Takes told other l result made later m k t u y z) (sym waits) took)

@@ -152,7 +152,7 @@ impl Session {
         &mut self,
         alloc: Global,
         lines: &[InitiatorLine],
-        turns: u32,
+        turns: u64,
         sink: &mut K,
         site: &mut H,
     ) -> Ended
@@ -162,9 +162,14 @@ impl Session {
         ensures cause { result ≡ SinkFailed → Rose (K.faults sink.old) (K.faults sink.new) }
         ensures later { K.faults sink.old ≤ K.faults sink.new }
     {
-        let all = lines.len() + turns as usize;
-        for place in 0..all {
+        for place in 0..lines.len() {
             match self.take_line(alloc, lines, place, sink, site) {
+                Some(ended) => return ended,
+                None => {}
+            }
+        }
+        for _ in 0..turns {
+            match self.take_line(alloc, &[], 0, sink, site) {
                 Some(ended) => return ended,
                 None => {}
             }
