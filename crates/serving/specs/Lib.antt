@@ -1,4 +1,5 @@
 pub mod Lines
+pub mod Notes
 pub mod Requests
 pub mod Runs
 pub mod Services
