@@ -1,3 +1,4 @@
+use Rattle.std.proofs.Common.{rules}
 use Rattle.std.specs.Prelude.{string_bytes}
 use Rattle.std.specs.Vec.Iter.{into_iter_items}
 use Rattle.atx.proofs.TopCalls.{is_program}
@@ -6,19 +7,19 @@ use Rattle.atx.proofs.top_call.program.Goals as goal
 pub returns : goal.returns
 returns g c = is_program g.S.Source.left g.S.Source.given g.S.Source.faults g.K.Sink.contents g.K.Sink.faults g.H.Site.told string_bytes (into_iter_items c.args.args) c.in-Ok.words.items _ _ _ _ _ _ _ c.in-Ok.ensures (record {
   statuses = c.run.ensures.statuses;
-  faulty_words = c.run.ensures.words;
-  faulty = c.run.ensures.faulty;
-  question = c.run.ensures.question;
-  filtered = c.run.ensures.filtered;
-  gave_up = c.run.ensures.gave_up;
+  faulty_words = search rules;
+  faulty = search rules;
+  question = search rules;
+  filtered = search rules;
+  gave_up = search rules;
   unread = c.run.ensures.unread;
   said = c.run.ensures.said;
   unknown = c.run.ensures.unknown;
   untouched = c.run.ensures.untouched;
-  making = c.run.ensures.making;
+  making = search rules;
   summed = c.run.ensures.summed;
   summed_in_part = c.run.ensures.summed_in_part;
-  asked = c.run.ensures.asked;
+  asked = search rules;
   silent = c.run.ensures.silent;
   ticked = c.run.ensures.ticked;
   not_ticked = c.run.ensures.not_ticked;
