@@ -1,0 +1,5 @@
+//! The call between `main` and the top call: the process's words, and its status.
+#![tactic(auto)]
+
+pub mod program;
+mod words;
