@@ -9,7 +9,7 @@ use command_line::run::run;
 use real_system::real_system::RealSystem;
 use std::env;
 use std::process::ExitCode;
-use top_call::program::with_words;
+use entry_point::program::with_words;
 
 fn main(rt: HostRuntime) -> ExitCode {
     with_words(

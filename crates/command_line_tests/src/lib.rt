@@ -14,6 +14,8 @@ mod long_schedules;
 #[cfg(test)]
 mod message_bytes;
 #[cfg(test)]
+mod program;
+#[cfg(test)]
 mod reports;
 #[cfg(test)]
 mod servings;

@@ -4,7 +4,7 @@ ghost use Rattle.std.specs.Prelude.{◌≡◌, IfErr, IfOk, drop};
 ghost use Rattle.std.specs.IoError.{error_kind};
 ghost use Rattle.std.specs.Process.{exit_status};
 ghost use Rattle.std.specs.Vec.Iter.{into_iter_items};
-ghost use Rattle.top_call.specs.Calls.{CalledOrNot, status_without};
+ghost use Rattle.entry_point.specs.Calls.{CalledOrNot, status_without};
 
 use crate::words::behind_name;
 use std::alloc::Global;

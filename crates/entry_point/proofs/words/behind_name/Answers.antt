@@ -1,8 +1,8 @@
 use Rattle.std.proofs.Common.{◌∙◌, ap, subst}
 use Rattle.std.specs.Vec.Iter.{into_iter_items, into_iter_steps}
 use Rattle.std.proofs.IntoIterSteps.{All-taken}
-use Rattle.top_call.proofs.IteratorRest.{all_but_one}
-use Rattle.top_call.proofs.words.behind_name.Goals as goal
+use Rattle.entry_point.proofs.IteratorRest.{all_but_one}
+use Rattle.entry_point.proofs.words.behind_name.Goals as goal
 
 pub returns : goal.returns
 returns c =

@@ -1,5 +1,5 @@
 use Rattle.std.proofs.Common.{inl, refl, ◌∙◌}
-use Rattle.top_call.proofs.program.status_of.Goals as goal
+use Rattle.entry_point.proofs.program.status_of.Goals as goal
 
 pub returns : goal.returns
 returns g c = inl (record {
