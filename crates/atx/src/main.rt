@@ -6,10 +6,10 @@ mod standard_streams;
 use crate::standard_streams::{Reading, Writing};
 use atx_sites::node_site::NodeSite;
 use command_line::run::run;
+use entry_point::program::with_words;
 use real_system::real_system::RealSystem;
 use std::env;
 use std::process::ExitCode;
-use entry_point::program::with_words;
 
 fn main(rt: HostRuntime) -> ExitCode {
     with_words(

@@ -2,6 +2,7 @@
 
 use crate::top_call::words_of;
 use command_line::run::run;
+use entry_point::program::with_words;
 use site_model::memory::{MemSink, MemSource};
 use site_model::sure_site::SureSite;
 use std::alloc::{AllocError, Global};
@@ -10,7 +11,6 @@ use std::io;
 use std::io::ErrorKind;
 use std::process::ExitCode;
 use std::test::Fail;
-use entry_point::program::with_words;
 
 /// Whether the process ends with this status, without an input.
 fn ends_with(alloc: Global, words: io::Result<Args>, status: u8) -> Result<bool, AllocError> {
