@@ -1,5 +1,7 @@
 //! Connections with bytes that leave: posts, and answers that weren't wholly out.
 
+ghost use Rattle.std.specs.Prelude.{◌<◌, IfSome, length};
+
 use crate::outgoing::{self, Outgoing};
 use crate::resolved_names::{self, ResolvedNames};
 use libc::net::{POLLIN, POLLOUT};
@@ -112,7 +114,9 @@ fn count_to<C: Drop>(leaving: &[Outgoing<C>], host: Option<SocketAddr>) -> usize
 }
 
 /// The place of the oldest whose bytes are all out; of those to one host, where one is given.
-fn oldest_ending<C: Drop>(leaving: &[Outgoing<C>], host: Option<SocketAddr>) -> Option<usize> {
+fn oldest_ending<C: Drop>(leaving: &[Outgoing<C>], host: Option<SocketAddr>) -> Option<usize>
+    ensures { IfSome result (λ i. i < length leaving.now) }
+{
     for i in 0..leaving.len() {
         let outgoing = &leaving[i];
         if outgoing.is_ending() && (host.is_none() || goes_to(outgoing, host)) {

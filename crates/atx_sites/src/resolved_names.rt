@@ -56,17 +56,6 @@ fn place(names: &[Name], host: &str, port: u16, now: Duration) -> Option<usize> 
     None
 }
 
-/// The place of the name whose time is over first.
-fn oldest(names: &[Name]) -> usize {
-    let mut found = 0;
-    for i in 1..names.len() {
-        if names[i].ends < names[found].ends {
-            found = i;
-        }
-    }
-    found
-}
-
 /// Looks a host up. None is found where that fails.
 fn look_up<S: System>(
     system: &mut S,
@@ -86,8 +75,7 @@ fn look_up<S: System>(
 /// Keeps a name, in place of the oldest where there are many.
 fn keep(names: &mut Vec<Name>, name: Name) -> Result<(), AllocError> {
     if names.len() >= MOST_NAMES {
-        let at = oldest(names);
-        names.swap_remove(at);
+        names.remove(0);
     }
     Ok(names.push(name)?)
 }
