@@ -1,5 +1,9 @@
 //! One connection with bytes that leave.
 
+ghost use Rattle.std.specs.Prelude.{◌≡◌, List, leb, length};
+ghost use Rattle.std.specs.declared.net.SocketAddr.{SocketAddr};
+ghost use Rattle.atx_sites.specs.Departures.{Begins, Goes};
+
 use std::alloc::Global;
 use std::io::ErrorKind;
 use std::net::SocketAddr;
@@ -34,14 +38,6 @@ pub enum Stage {
     Over,
     /// Nothing more is done: not all bytes are out.
     Lost,
-}
-
-/// What became of a few writes.
-#[derive(Clone, Copy, Debug, PartialEq, Eq)]
-enum Wrote {
-    All,
-    Some,
-    Failed,
 }
 
 /// One connection with bytes that leave, which never waits.
@@ -107,6 +103,22 @@ impl<C: Drop> Outgoing<C> {
         }
     }
 
+    /// Whether the system took all bytes.
+    fn is_out(&self) -> bool
+        ensures { result ≡ leb (length self.bytes.items) self.done }
+    {
+        self.done >= self.bytes.len()
+    }
+
+    /// What it is when nothing more is to be done.
+    fn closed(&self) -> Stage {
+        if self.is_out() {
+            Stage::Over
+        } else {
+            Stage::Lost
+        }
+    }
+
     /// Whether nothing more is to be done, and the connection can be closed.
     pub(crate) fn is_over(&self) -> bool {
         matches!(self.stage, Stage::Over | Stage::Lost)
@@ -123,56 +135,66 @@ impl<C: Drop> Outgoing<C> {
 }
 
 /// Begins to connect to the first of the addresses from `next` on for which the system does.
+#[tactic(auto, using(crate::proofs::Leavings::untried, crate::proofs::Leavings::tried, crate::proofs::Leavings::begins))]
 pub(crate) fn connect<S: System>(
     system: &mut S,
     addresses: &[SocketAddr],
     next: &mut usize,
-) -> Option<S::Stream> {
-    for _ in 0..addresses.len() {
+) -> Option<S::Stream>
+    ensures { Begins S.Stream.raw_fd addresses.now result (S.calls system.old) (S.calls system.new) }
+{
+    'tries: for _ in 0..addresses.len() {
         let at = *next;
         if at >= addresses.len() {
             return None;
         }
         *next = at + 1;
-        if let Ok(stream) = system.connect(&addresses[at]) {
-            return Some(stream);
+        match system.connect(&addresses[at]) {
+            Ok(stream) => return Some(stream),
+            Err(_) => {}
         }
     }
     None
 }
 
-/// Hands bytes to the system from `done` on, as many as it takes without waiting.
-fn write<S: System>(system: &mut S, stream: &S::Stream, bytes: &[u8], done: &mut usize) -> Wrote {
-    for _ in 0..u32::MAX {
+/// Hands bytes to the system from `done` on, as many as it takes without waiting. Whether the connection still stands, or may.
+#[tactic(auto, using(crate::proofs::Leavings::stays, crate::proofs::Leavings::goes_took, crate::proofs::Leavings::goes_failed))]
+fn write<S: System>(system: &mut S, stream: &S::Stream, bytes: &[u8], done: &mut usize) -> bool
+    ensures { (addresses : List SocketAddr) → Goes addresses bytes.now (S.Stream.raw_fd stream.now) done.old (S.calls system.old) (S.Stream.raw_fd stream.now) done.new (S.calls system.new) }
+{
+    'pieces: for _ in 0..u32::MAX {
         if *done >= bytes.len() {
-            return Wrote::All;
+            return true;
         }
         match system.write(stream, &bytes[*done..]) {
-            Ok(0) => return Wrote::Failed,
+            Ok(0) => return false,
             Ok(n) => *done += n,
             Err(fault) if fault.kind() == ErrorKind::Interrupted => {}
-            Err(fault) if fault.kind() == ErrorKind::WouldBlock => return Wrote::Some,
-            Err(_) => return Wrote::Failed,
+            Err(fault) => return fault.kind() == ErrorKind::WouldBlock,
         }
     }
-    Wrote::Some
+    true
 }
 
-/// Writes; where an address failed before it took a byte, the next one is tried.
-fn send<S: System>(system: &mut S, outgoing: &mut Outgoing<S::Stream>) -> Wrote {
-    for _ in 0..outgoing.addresses.len() {
-        let wrote = write(
+#[tactic(auto, using(crate::proofs::Leavings::stays, crate::proofs::Leavings::goes_begun, crate::proofs::Leavings::goes_unreached))]
+/// Writes; where an address failed before it took a byte, the next one is tried. Whether the connection still stands, or may.
+fn send<S: System>(system: &mut S, outgoing: &mut Outgoing<S::Stream>) -> bool
+    ensures calls { Goes outgoing.old.addresses.items outgoing.old.bytes.items (S.Stream.raw_fd outgoing.old.stream) outgoing.old.done (S.calls system.old) (S.Stream.raw_fd outgoing.new.stream) outgoing.new.done (S.calls system.new) }
+    ensures same { (outgoing.new.bytes ≡ outgoing.old.bytes) × (outgoing.new.addresses ≡ outgoing.old.addresses) }
+{
+    'addresses: for _ in 0..outgoing.addresses.len() {
+        let stands = write(
             system,
             &outgoing.stream,
             &outgoing.bytes,
             &mut outgoing.done,
         );
-        if wrote != Wrote::Failed || outgoing.done > 0 {
-            return wrote;
+        if stands || outgoing.done > 0 {
+            return stands;
         }
         match connect(system, &outgoing.addresses, &mut outgoing.next) {
             Some(stream) => outgoing.stream = stream,
-            None => return Wrote::Failed,
+            None => return false,
         }
     }
     write(
@@ -197,7 +219,18 @@ fn read_away<S: System>(system: &mut S, stream: &S::Stream) -> bool {
     true
 }
 
-/// Behind the last byte: where it is an answer, nothing more is sent, and the peer learns so.
+/// How far a connection is whose bytes aren't all out, behind a few writes.
+fn sending(before: Stage, done: usize, stands: bool) -> Stage {
+    if !stands {
+        Stage::Lost
+    } else if done > 0 {
+        Stage::Sending
+    } else {
+        before
+    }
+}
+
+/// Behind the last byte: where it is an answer, nothing more is sent.
 fn end<S: System>(system: &mut S, outgoing: &mut Outgoing<S::Stream>, now: Duration) {
     outgoing.stage = Stage::Ending;
     if outgoing.shuts {
@@ -210,34 +243,24 @@ fn end<S: System>(system: &mut S, outgoing: &mut Outgoing<S::Stream>, now: Durat
     }
 }
 
-/// What a few writes came to.
-fn note(stage: Stage, done: usize, wrote: Wrote) -> Stage {
-    match (stage, wrote) {
-        (_, Wrote::Failed) => Stage::Lost,
-        (Stage::Connecting, _) if done == 0 => Stage::Connecting,
-        _ => Stage::Sending,
-    }
-}
-
 /// Sends what can be sent now.
 fn go_sending<S: System>(system: &mut S, outgoing: &mut Outgoing<S::Stream>, now: Duration) {
-    let before = outgoing.stage;
-    let wrote = send(system, outgoing);
-    outgoing.stage = note(before, outgoing.done, wrote);
-    if before == Stage::Connecting && outgoing.stage == Stage::Sending {
+    let stands = send(system, outgoing);
+    if outgoing.is_out() {
+        end(system, outgoing, now);
+        return;
+    }
+    let stage = sending(outgoing.stage, outgoing.done, stands);
+    if outgoing.stage == Stage::Connecting && stage == Stage::Sending {
         outgoing.ends = in_seconds(now, SEND_SECONDS);
     }
-    if wrote == Wrote::All {
-        end(system, outgoing, now);
-    }
+    outgoing.stage = stage;
 }
 
-/// What becomes of a connection whose time is over.
-fn given_up(stage: Stage) -> Stage {
-    match stage {
-        Stage::Connecting | Stage::Sending => Stage::Lost,
-        Stage::Ending => Stage::Over,
-        Stage::Over | Stage::Lost => stage,
+/// Reads away what can be read now.
+fn go_ending<S: System>(system: &mut S, outgoing: &mut Outgoing<S::Stream>) {
+    if !outgoing.is_out() || !read_away(system, &outgoing.stream) {
+        outgoing.stage = outgoing.closed();
     }
 }
 
@@ -246,10 +269,10 @@ pub(crate) fn go<S: System>(system: &mut S, outgoing: &mut Outgoing<S::Stream>, 
     if matches!(outgoing.stage, Stage::Connecting | Stage::Sending) {
         go_sending(system, outgoing, now);
     }
-    if outgoing.stage == Stage::Ending && !read_away(system, &outgoing.stream) {
-        outgoing.stage = Stage::Over;
+    if outgoing.is_ending() {
+        go_ending(system, outgoing);
     }
-    if outgoing.ends <= now {
-        outgoing.stage = given_up(outgoing.stage);
+    if outgoing.ends <= now && !outgoing.is_over() {
+        outgoing.stage = outgoing.closed();
     }
 }

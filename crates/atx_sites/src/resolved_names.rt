@@ -1,5 +1,7 @@
 //! Names of hosts that were looked up.
 
+ghost use Rattle.std.specs.Prelude.{◌<◌, IfSome, length};
+
 use std::alloc::{AllocError, Global};
 use std::io::{self, ErrorKind};
 use std::net::{IpAddr, SocketAddr};
@@ -46,7 +48,9 @@ fn bare(host: &str) -> &str {
 }
 
 /// Where a name is kept whose time isn't over.
-fn place(names: &[Name], host: &str, port: u16, now: Duration) -> Option<usize> {
+fn place(names: &[Name], host: &str, port: u16, now: Duration) -> Option<usize>
+    ensures { IfSome result (λ i. i < length names.now) }
+{
     for i in 0..names.len() {
         let name = &names[i];
         if name.port == port && name.ends > now && name.host.as_str() == host {
