@@ -24,7 +24,7 @@ fn main(rt: HostRuntime) -> ExitCode {
     };
     let mut source = Reading::new(rt.stdin());
     let mut sink = Writing::new(rt.stdout());
-    let mut site = NodeSite::new(RealSystem::new(&rt));
+    let mut site = NodeSite::new(rt.alloc(), RealSystem::new(&rt));
     ExitCode::from(run(
         rt.alloc(),
         words.as_slice(),

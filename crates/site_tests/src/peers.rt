@@ -154,7 +154,7 @@ fn attached(rt: &HostRuntime, test: &str, act: Act) -> io::Result<bool> {
     let name = name_of(rt, test)?;
     let port = free_port(rt)?;
     let address = address_of(rt, port)?;
-    let mut site = NodeSite::new(RealSystem::new(rt));
+    let mut site = NodeSite::new(rt.alloc(), RealSystem::new(rt));
     let shut = site.take().is_err();
     let opened = site.attach(name.as_str(), address.as_str()) == Ok(());
     let done = match act {
@@ -191,8 +191,8 @@ fn no_peer_holds_the_node(rt: HostRuntime) -> Result<(), Fail> {
 fn shuts_out(rt: &HostRuntime, name: &str, other_name: &str) -> io::Result<bool> {
     let port = free_port(rt)?;
     let address = address_of(rt, port)?;
-    let mut site = NodeSite::new(RealSystem::new(rt));
-    let mut other = NodeSite::new(RealSystem::new(rt));
+    let mut site = NodeSite::new(rt.alloc(), RealSystem::new(rt));
+    let mut other = NodeSite::new(rt.alloc(), RealSystem::new(rt));
     let first = site.attach(name, address.as_str());
     let same_files = other.attach(name, "127.0.0.1:0");
     let same_port = other.attach(other_name, address.as_str());
