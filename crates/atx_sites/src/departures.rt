@@ -1,72 +1,201 @@
-//! A stand-in.
+//! Connections with bytes that leave: posts, and answers that weren't wholly out.
 
+ghost use Rattle.std.specs.Prelude.{◌<◌, IfSome, length};
+
+use crate::outgoing::{self, Outgoing};
+use crate::resolved_names::{self, ResolvedNames};
 use libc::net::{POLLIN, POLLOUT};
 use libc::types::pollfd;
 use std::alloc::{AllocError, Global};
 use std::io::{self, ErrorKind};
+use std::net::SocketAddr;
 use std::os::fd::AsRawFd;
 use std::time::Duration;
 use system_calls::system::System;
 
+/// The most connections that leave.
+const MOST: usize = 1024;
+
+/// The most of them to one host, known by the first of its addresses.
+const MOST_TO_ONE: usize = 64;
+
+/// The most bytes of all of them.
+const MOST_BYTES: usize = 16 * 1024 * 1024;
+
+/// Connections with bytes that leave, of which none is waited for.
+///
+/// Where one more would be too many, one whose bytes are all out, and of which only what its peer answers is read away, is
+/// closed for it.
 #[derive(Drop)]
-pub(crate) struct Departures<C> {
+pub struct Departures<C> {
     alloc: Global,
+    pub(crate) leaving: Vec<Outgoing<C>>,
+    names: ResolvedNames,
+    /// How many were given up, or failed, before the system had all their bytes.
     pub(crate) lost: u64,
-    kept: Vec<C>,
 }
 
 impl<C: AsRawFd + Drop> Departures<C> {
+    /// Nothing leaves.
     pub(crate) fn new(alloc: Global) -> Departures<C> {
         Departures {
             alloc,
+            leaving: Vec::new(alloc),
+            names: ResolvedNames::new(alloc),
             lost: 0,
-            kept: Vec::new(alloc),
         }
     }
 
+    /// Whether nothing leaves.
+    pub(crate) fn is_empty(&self) -> bool {
+        self.leaving.is_empty()
+    }
+
+    /// When the next of them is given up.
+    pub(crate) fn earliest(&self) -> Option<Duration> {
+        let mut found: Option<Duration> = None;
+        for outgoing in self.leaving.iter() {
+            found = Some(sooner(found, outgoing.ends));
+        }
+        found
+    }
+
+    /// Adds what the system is to wait for.
     pub(crate) fn asks(&self, asks: &mut Vec<pollfd>) -> Result<(), AllocError> {
+        for outgoing in self.leaving.iter() {
+            asks.push(asked(outgoing))?;
+        }
         Ok(())
     }
+}
 
-    pub(crate) fn earliest(&self) -> Option<Duration> {
-        None
-    }
-
-    pub(crate) fn is_empty(&self) -> bool {
-        true
+fn sooner(found: Option<Duration>, ends: Duration) -> Duration {
+    match found {
+        Some(soonest) if soonest <= ends => soonest,
+        _ => ends,
     }
 }
 
-pub(crate) fn advance<S: System>(
+fn asked<C: AsRawFd + Drop>(outgoing: &Outgoing<C>) -> pollfd {
+    pollfd {
+        fd: outgoing.stream.as_raw_fd(),
+        events: if outgoing.is_ending() {
+            POLLIN
+        } else {
+            POLLOUT
+        },
+        revents: 0,
+    }
+}
+
+/// The bytes of all of them.
+fn bytes_of<C: Drop>(leaving: &[Outgoing<C>]) -> usize {
+    let mut sum: usize = 0;
+    for outgoing in leaving.iter() {
+        sum = sum.saturating_add(outgoing.bytes.len());
+    }
+    sum
+}
+
+/// Whether it goes to that host.
+fn goes_to<C: Drop>(outgoing: &Outgoing<C>, host: Option<SocketAddr>) -> bool {
+    outgoing.addresses.first().copied() == host
+}
+
+/// How many go to that host.
+fn count_to<C: Drop>(leaving: &[Outgoing<C>], host: Option<SocketAddr>) -> usize {
+    let mut count: usize = 0;
+    for outgoing in leaving.iter() {
+        if goes_to(outgoing, host) {
+            count = count.saturating_add(1);
+        }
+    }
+    count
+}
+
+/// The place of the oldest whose bytes are all out; of those to one host, where one is given.
+fn oldest_ending<C: Drop>(leaving: &[Outgoing<C>], host: Option<SocketAddr>) -> Option<usize>
+    ensures { IfSome result (λ i. i < length leaving.now) }
+{
+    for i in 0..leaving.len() {
+        let outgoing = &leaving[i];
+        if outgoing.is_ending() && (host.is_none() || goes_to(outgoing, host)) {
+            return Some(i);
+        }
+    }
+    None
+}
+
+/// Closes the oldest whose bytes are all out; of those to one host, where one is given. Whether there was one.
+fn close_ending<C: Drop>(leaving: &mut Vec<Outgoing<C>>, host: Option<SocketAddr>) -> bool {
+    match oldest_ending(leaving, host) {
+        Some(at) => {
+            leaving.remove(at);
+            true
+        }
+        None => false,
+    }
+}
+
+/// Makes room for so many bytes. Whether there is some.
+fn has_room_for<C: Drop>(leaving: &mut Vec<Outgoing<C>>, bytes: usize) -> bool {
+    for _ in 0..MOST {
+        if bytes_of(leaving).saturating_add(bytes) <= MOST_BYTES {
+            return true;
+        }
+        if !close_ending(leaving, None) {
+            return false;
+        }
+    }
+    false
+}
+
+/// Makes room for one more, with so many bytes. Whether there is some.
+fn has_room<C: Drop>(leaving: &mut Vec<Outgoing<C>>, bytes: usize) -> bool {
+    if leaving.len() >= MOST && !close_ending(leaving, None) {
+        return false;
+    }
+    has_room_for(leaving, bytes)
+}
+
+/// Makes room for one more to a host. Whether there is some.
+fn has_room_to<C: Drop>(leaving: &mut Vec<Outgoing<C>>, host: SocketAddr) -> bool {
+    count_to(leaving, Some(host)) < MOST_TO_ONE || close_ending(leaving, Some(host))
+}
+
+/// A post to one of these addresses, whose connection is begun.
+fn begun<S: System>(
     system: &mut S,
-    departures: &mut Departures<S::Stream>,
-    now: Duration,
-) {}
-
-fn write_out<S: System>(system: &mut S, stream: &S::Stream, bytes: &[u8]) -> io::Result<()> {
-    let mut done = 0;
-    for _ in 0..u16::MAX {
-        if done >= bytes.len() {
-            return Ok(());
-        }
-        match system.write(stream, &bytes[done..]) {
-            Ok(n) => done += n,
-            Err(fault) if fault.kind() == ErrorKind::WouldBlock => {
-                let mut asks = [pollfd {
-                    fd: stream.as_raw_fd(),
-                    events: POLLOUT,
-                    revents: 0,
-                }];
-                if system.poll(&mut asks, 1000) == 0 {
-                    return Err(ErrorKind::TimedOut.into());
-                }
-            }
-            Err(fault) => return Err(fault),
-        }
+    addresses: Vec<SocketAddr>,
+    bytes: Vec<u8>,
+) -> io::Result<Outgoing<S::Stream>> {
+    let now = system.monotonic()?;
+    let mut next = 0;
+    match outgoing::connect(system, &addresses, &mut next) {
+        Some(stream) => Ok(Outgoing::post(stream, addresses, next, bytes, now)),
+        None => Err(ErrorKind::HostUnreachable.into()),
     }
-    Ok(())
 }
 
+/// Lets the one that came last go on, and takes it out where nothing is left to do. Whether it was lost.
+fn first_tries<S: System>(
+    system: &mut S,
+    leaving: &mut Vec<Outgoing<S::Stream>>,
+    now: Duration,
+) -> bool {
+    let Some(last) = leaving.last_mut() else {
+        return false;
+    };
+    outgoing::go(system, last, now);
+    let lost = last.is_lost();
+    if last.is_over() {
+        leaving.pop();
+    }
+    lost
+}
+
+/// Posts bytes to a host, and waits for nobody but for a name to be looked up. After Ok the bytes are out or leave. After a
+/// failure the peer may have a beginning of them.
 pub(crate) fn post<S: System>(
     system: &mut S,
     departures: &mut Departures<S::Stream>,
@@ -74,18 +203,27 @@ pub(crate) fn post<S: System>(
     port: u16,
     bytes: &[u8],
 ) -> io::Result<()> {
-    for address in system.resolve(host, port)? {
-        let stream = system.connect(&address)?;
-        write_out(system, &stream, bytes)?;
-        if departures.kept.len() > 8 {
-            drop(departures.kept.remove(0));
-        }
-        departures.kept.push(stream)?;
-        return Ok(());
+    let addresses = resolved_names::addresses(system, &mut departures.names, host, port)?;
+    let Some(first) = addresses.first().copied() else {
+        return Err(ErrorKind::HostUnreachable.into());
+    };
+    if !has_room_to(&mut departures.leaving, first)
+        || !has_room(&mut departures.leaving, bytes.len())
+    {
+        return Err(ErrorKind::QuotaExceeded.into());
     }
-    Err(ErrorKind::HostUnreachable.into())
+    let bytes = Vec::from_slice(departures.alloc, bytes)?;
+    let begun = begun(system, addresses, bytes)?;
+    departures.leaving.push(begun)?;
+    let now = system.monotonic()?;
+    if first_tries(system, &mut departures.leaving, now) {
+        return Err(ErrorKind::HostUnreachable.into());
+    }
+    Ok(())
 }
 
+/// Takes over a connection with its answer, of which the system took `done` bytes. It is closed behind the answer. Where there
+/// is no room, it is closed at once.
 pub(crate) fn answer<S: System>(
     system: &mut S,
     departures: &mut Departures<S::Stream>,
@@ -93,8 +231,46 @@ pub(crate) fn answer<S: System>(
     bytes: Vec<u8>,
     done: usize,
 ) {
-    let _ = write_out(system, &stream, bytes.as_slice());
-    let _ = system.shut_down(&stream);
+    let Ok(now) = system.monotonic() else {
+        return;
+    };
+    if has_room(&mut departures.leaving, bytes.len()) {
+        let leaves = Outgoing::answer(departures.alloc, stream, bytes, done, now);
+        if departures.leaving.push(leaves).is_ok() {
+            if first_tries(system, &mut departures.leaving, now) {
+                departures.lost = departures.lost.saturating_add(1);
+            }
+        }
+    }
 }
 
-pub(crate) fn leave<S: System>(system: &mut S, departures: &mut Departures<S::Stream>) {}
+/// How many were lost.
+fn count_lost<C: Drop>(leaving: &[Outgoing<C>]) -> u64 {
+    let mut count: u64 = 0;
+    for outgoing in leaving.iter() {
+        if outgoing.is_lost() {
+            count = count.saturating_add(1);
+        }
+    }
+    count
+}
+
+/// Closes those with nothing left to do.
+fn close_over<C: Drop>(leaving: &mut Vec<Outgoing<C>>) {
+    leaving.retain(|outgoing| !outgoing.is_over());
+}
+
+/// Lets each go on as far as it can without waiting, gives up those whose time is over, and closes those that are done.
+pub(crate) fn advance<S: System>(
+    system: &mut S,
+    departures: &mut Departures<S::Stream>,
+    now: Duration,
+) {
+    for i in 0..departures.leaving.len() {
+        outgoing::go(system, &mut departures.leaving[i], now);
+    }
+    departures.lost = departures
+        .lost
+        .saturating_add(count_lost(&departures.leaving));
+    close_over(&mut departures.leaving);
+}

@@ -1,0 +1,41 @@
+-- Which calls of the system are made on connections with bytes that leave.
+use Rattle.std.specs.Prelude.{ℕ, List, Option, Some, None, Ok, Err, ◌≡◌, ◌+◌, ◌≤◌, length, drop, Contains}
+use Rattle.std.specs.declared.io.Error.{Error}
+use Rattle.std.specs.declared.net.SocketAddr.{SocketAddr}
+use Rattle.system_calls.specs.Calls.{Calls, Number, Answer, then}
+use Rattle.system_calls.specs.Calls.Call.{Connect, Read, ShutDown, Write}
+
+-- The calls of one connection, from where `sent` of its bytes were taken: each write is of all that those before it didn't take.
+-- Where an address took none of them, there is another connection, to another of the host's. Behind the last byte nothing more is
+-- sent, and what comes is read. No other call is made.
+pub data Leaves (addresses : List SocketAddr) (bytes : List ℕ) (stream : Number) (sent : ℕ) (old : Calls) : Number → ℕ → Calls → Type 0 where
+  none : {s : Number} {k : ℕ} {new : Calls} → s ≡ stream → k ≡ sent → new ≡ old → Leaves addresses bytes stream sent old s k new
+  took : {s : Number} {j k : ℕ} {mid new : Calls} (m : ℕ) → Leaves addresses bytes stream sent old s j mid → k ≡ j + m
+      → new ≡ then (Write s (drop j bytes) (Ok m)) mid → Leaves addresses bytes stream sent old s k new
+  failed : {s : Number} {k : ℕ} {mid new : Calls} (fault : Error) → Leaves addresses bytes stream sent old s k mid
+      → new ≡ then (Write s (drop k bytes) (Err fault)) mid → Leaves addresses bytes stream sent old s k new
+  connects : {s next : Number} {k : ℕ} {mid new : Calls} (address : SocketAddr) → Leaves addresses bytes stream sent old s k mid → k ≡ 0 → Contains addresses address
+      → new ≡ then (Connect address (Ok next)) mid → Leaves addresses bytes stream sent old next k new
+  unreached : {s : Number} {k : ℕ} {mid new : Calls} (address : SocketAddr) (fault : Error) → Leaves addresses bytes stream sent old s k mid → k ≡ 0
+      → Contains addresses address → new ≡ then (Connect address (Err fault)) mid → Leaves addresses bytes stream sent old s k new
+  shuts : {s : Number} {k : ℕ} {mid new : Calls} (got : Answer (Unit {0})) → Leaves addresses bytes stream sent old s k mid → length bytes ≤ k
+      → new ≡ then (ShutDown s got) mid → Leaves addresses bytes stream sent old s k new
+  reads : {s : Number} {k : ℕ} {mid new : Calls} (got : Answer (List ℕ)) → Leaves addresses bytes stream sent old s k mid → length bytes ≤ k
+      → new ≡ then (Read s got) mid → Leaves addresses bytes stream sent old s k new
+
+-- the same, of a connection whose calls so far were such ones: they still are
+abbrev pub Goes : List SocketAddr → List ℕ → Number → ℕ → Calls → Number → ℕ → Calls → Type 0
+Goes addresses bytes from sent old to now new =
+    (stream : Number) (k : ℕ) (first : Calls) → Leaves addresses bytes stream k first from sent old → Leaves addresses bytes stream k first to now new
+
+-- connections to some of these addresses were begun in vain, any number
+pub data Unreached (addresses : List SocketAddr) (old : Calls) : Calls → Type 0 where
+  none : {new : Calls} → new ≡ old → Unreached addresses old new
+  again : {mid new : Calls} (address : SocketAddr) (fault : Error) → Unreached addresses old mid → Contains addresses address
+      → new ≡ then (Connect address (Err fault)) mid → Unreached addresses old new
+
+-- and then one is begun, or none
+abbrev pub Begins : {C : Type 0} → (C → Number) → List SocketAddr → Option C → Calls → Calls → Type 0
+Begins number addresses (Some stream) old new =
+    (mid : Calls) × Unreached addresses old mid × ((address : SocketAddr) × Contains addresses address × (new ≡ then (Connect address (Ok (number stream))) mid))
+Begins number addresses None old new = Unreached addresses old new
