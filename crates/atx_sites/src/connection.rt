@@ -238,3 +238,25 @@ pub(crate) fn close<S: System>(
         departures::answer(system, departures, stream, unsent, 0);
     }
 }
+
+/// Lets go out what still leaves, each until its own time is over.
+pub(crate) fn leave<S: System>(
+    system: &mut S,
+    alloc: Global,
+    departures: &mut Departures<S::Stream>,
+) -> io::Result<()> {
+    for _ in 0..u64::MAX {
+        let now = system.monotonic()?;
+        departures::advance(system, departures, now);
+        if departures.is_empty() {
+            return Ok(());
+        }
+        let mut asks = Vec::new(alloc);
+        departures.asks(&mut asks)?;
+        system.poll(
+            asks.as_mut_slice(),
+            millis_until(now, departures.earliest()),
+        );
+    }
+    Ok(())
+}

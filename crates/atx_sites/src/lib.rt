@@ -12,4 +12,6 @@ mod framing;
 mod names;
 pub mod node_site;
 pub mod open_file;
+pub mod outgoing;
+pub mod resolved_names;
 pub mod waiting;

@@ -31,6 +31,7 @@ use system_calls::system::System;
 /// addresses, or by names that this machine knows.
 #[derive(Drop)]
 pub struct NodeSite<S: System + Drop> {
+    alloc: Global,
     system: S,
     disk: Disk<S::File>,
     connection: Connection<S::Listener, S::Stream>,
@@ -51,6 +52,7 @@ impl<S: System + Drop> NodeSite<S> {
         ensures names { result.attached.names ≡ [] }
     {
         NodeSite {
+            alloc,
             system,
             disk: Disk::new(),
             connection: Connection::new(alloc),
@@ -71,7 +73,7 @@ impl<S: System + Drop> NodeSite<S> {
     /// Lets go out what still leaves, each until its own time is over.
     pub fn leave(&mut self) {
         connection::close(&mut self.system, &mut self.connection, &mut self.departures);
-        departures::leave(&mut self.system, &mut self.departures);
+        let _ = connection::leave(&mut self.system, self.alloc, &mut self.departures);
     }
 }
 
