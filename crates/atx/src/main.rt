@@ -24,12 +24,14 @@ fn main(rt: HostRuntime) -> ExitCode {
     };
     let mut source = Reading::new(rt.stdin());
     let mut sink = Writing::new(rt.stdout());
-    let mut site = NodeSite::new(RealSystem::new(&rt));
-    ExitCode::from(run(
+    let mut site = NodeSite::new(rt.alloc(), RealSystem::new(&rt));
+    let status = run(
         rt.alloc(),
         words.as_slice(),
         &mut source,
         &mut sink,
         &mut site,
-    ))
+    );
+    site.leave();
+    ExitCode::from(status)
 }

@@ -1,3 +1,4 @@
+pub mod Departures
 pub mod Disks
 pub mod FileCalls
 pub mod Files

@@ -1,89 +1,47 @@
-//! The listener of a node, and the connection that is served.
+//! The listener of a node, the connections that are read aside, and the one that is served.
 
-ghost use Rattle.std.specs.Prelude.{◌≡◌, None, IsErr};
-ghost use Rattle.std.specs.Io.{ReadsAtMost};
+ghost use Rattle.std.specs.Prelude.{◌≡◌, ◌≤◌, None, IsErr, length};
+ghost use Rattle.std.specs.Io.{ReadsAtMost, WritesAtMost};
 ghost use Rattle.atx_sites.specs.LinkCalls.{IfListens, number_at};
 
-use crate::deadlines::{in_seconds, left, write_by};
-use crate::idle_connections::{Idle, wait};
+use crate::arriving::{Arriving, Rest};
+use crate::deadlines::{earlier, left, millis_until};
+use crate::departures::{self, Departures};
+use crate::waiting::{Waiting, accept_all, asked, read_found};
+use libc::types::pollfd;
+use std::alloc::Global;
 use std::io::{self, ErrorKind};
 use std::os::fd::AsRawFd;
 use std::time::Duration;
 use system_calls::system::System;
 
-/// The seconds in which a whole request must come, from the connection's turn on.
-const REQUEST_SECONDS: u64 = 10;
-
-/// The seconds in which the system must take a piece of an answer.
-const ANSWER_SECONDS: u64 = 5;
-
-/// The seconds for which what a peer still sends is read away, where some was left unread.
-const LINGER_SECONDS: u64 = 1;
-
-/// A connection, and the time at which it has been read for long enough.
+/// A connection that is served: what was read aside of it, how much of that was given, and what of the answer the system
+/// hasn't taken.
 #[derive(Drop)]
 pub struct Served<C> {
-    pub(crate) stream: C,
-    ends: Duration,
+    arriving: Arriving<C>,
+    given: usize,
+    unsent: Vec<u8>,
 }
 
-/// A listener, and the connection that is served. Connections are served one after another.
+/// A listener, the connections that are read aside, and the one that is served. Connections are served one after another.
 #[derive(Drop)]
 pub struct Connection<L, C> {
+    alloc: Global,
     pub(crate) listener: Option<L>,
     pub(crate) served: Option<Served<C>>,
-    idle: Idle<C>,
-}
-
-/// Reads, and says how many bytes, before the connection's time ends.
-fn read<S: System>(system: &mut S, served: &Served<S::Stream>, buf: &mut [u8]) -> io::Result<usize>
-    ensures { ReadsAtMost result buf.new }
-{
-    'tries: for _ in 0..u16::MAX {
-        let within = left(system, served.ends)?;
-        system.read_within(&served.stream, within)?;
-        match system.read(&served.stream, buf) {
-            Ok(n) => return Ok(n),
-            Err(fault) if fault.kind() == ErrorKind::Interrupted => {}
-            Err(fault) => return Err(fault),
-        }
-    }
-    Err(ErrorKind::Interrupted.into())
-}
-
-/// Reads away what the peer still sends, for a second.
-fn drain<S: System>(system: &mut S, served: &mut Served<S::Stream>) -> io::Result<()> {
-    let mut buf = [0u8; 4096];
-    served.ends = in_seconds(system, LINGER_SECONDS)?;
-    for _ in 0..u16::MAX {
-        if read(system, served, &mut buf)? == 0 {
-            return Ok(());
-        }
-    }
-    Ok(())
-}
-
-/// Ends the connection. Bytes that are unread when a stream is closed reset it, and the peer might lose the answer: where
-/// some are there, they are read away first.
-fn end<S: System>(system: &mut S, mut served: Served<S::Stream>) -> io::Result<()> {
-    let mut buf = [0u8; 4096];
-    system.shut_down(&served.stream)?;
-    system.stream_blocks(&served.stream, false)?;
-    if system.read(&served.stream, &mut buf)? == 0 {
-        return Ok(());
-    }
-    system.stream_blocks(&served.stream, true)?;
-    drain(system, &mut served)
+    waiting: Waiting<C>,
 }
 
 impl<L: Drop, C: AsRawFd + Drop> Connection<L, C> {
-    pub(crate) fn new() -> Connection<L, C>
+    pub(crate) fn new(alloc: Global) -> Connection<L, C>
         ensures { (result.listener ≡ None) × (result.served ≡ None) }
     {
         Connection {
+            alloc,
             listener: None,
             served: None,
-            idle: Idle::new(),
+            waiting: Waiting::new(alloc),
         }
     }
 }
@@ -98,66 +56,207 @@ pub(crate) fn listen<S: System>(
 {
     connection.listener = None;
     connection.served = None;
-    connection.idle = Idle::new();
-    let listener = system.listen(address)?;
-    system.listener_blocks(&listener, false)?;
-    connection.listener = Some(listener);
+    connection.waiting.begin()?;
+    connection.listener = Some(system.listen(address)?);
     Ok(())
 }
 
-/// Waits for a connection that has something to read, or has ended. One that is still open is closed.
+/// Waits until something can be done, or a time is over, and does it: connections are accepted and read aside.
+fn go_on<S: System>(
+    system: &mut S,
+    waiting: &mut Waiting<S::Stream>,
+    departures: &Departures<S::Stream>,
+    listener: &S::Listener,
+    now: Duration,
+) -> io::Result<()> {
+    let mut asks = Vec::new(waiting.alloc());
+    waiting.asks(listener.as_raw_fd(), &mut asks)?;
+    let arriving = asks.len();
+    departures.asks(&mut asks)?;
+    let until = earlier(waiting.earliest(), departures.earliest());
+    system.poll(asks.as_mut_slice(), millis_until(now, until));
+    let later = system.monotonic()?;
+    let found = asks.as_slice();
+    read_found(system, waiting, &found[1..arriving]);
+    if found[0].revents != 0 || waiting.is_paused(later) {
+        accept_all(system, waiting, listener, later)?;
+    }
+    Ok(())
+}
+
+/// Waits for a connection whose turn may come. Meanwhile what leaves goes on.
+fn wait<S: System>(
+    system: &mut S,
+    waiting: &mut Waiting<S::Stream>,
+    departures: &mut Departures<S::Stream>,
+    listener: &S::Listener,
+) -> io::Result<Arriving<S::Stream>> {
+    for _ in 0..u64::MAX {
+        let now = system.monotonic()?;
+        departures::advance(system, departures, now);
+        if let Some(ready) = waiting.ready(now) {
+            return Ok(ready);
+        }
+        go_on(system, waiting, departures, listener, now)?;
+    }
+    Err(ErrorKind::TimedOut.into())
+}
+
+/// Waits for a connection whose turn may come: its whole request is there, it ended or failed, or its time is over. One that
+/// is still open is closed.
 pub(crate) fn take<S: System>(
     system: &mut S,
     connection: &mut Connection<S::Listener, S::Stream>,
+    departures: &mut Departures<S::Stream>,
 ) -> io::Result<()>
     ensures shut { connection.old.listener ≡ None → IsErr result }
 {
-    close(system, connection);
+    close(system, connection, departures);
     let Some(listener) = &connection.listener else {
         return Err(ErrorKind::NotConnected.into());
     };
-    let stream = wait(system, &mut connection.idle, listener)?;
-    let ends = in_seconds(system, REQUEST_SECONDS)?;
-    connection.served = Some(Served { stream, ends });
+    let arriving = wait(system, &mut connection.waiting, departures, listener)?;
+    connection.served = Some(Served {
+        arriving,
+        given: 0,
+        unsent: Vec::new(connection.alloc),
+    });
     Ok(())
 }
 
-/// Reads from the connection that is open, and says how many bytes.
+/// Reads what comes on a connection, before its time ends, and says how many bytes.
+fn read_on<S: System>(
+    system: &mut S,
+    arriving: &Arriving<S::Stream>,
+    buf: &mut [u8],
+) -> io::Result<usize>
+    ensures { ReadsAtMost result buf.new }
+{
+    for _ in 0..u16::MAX {
+        let millis = left(system, arriving.ends)?;
+        match system.read(&arriving.stream, buf) {
+            Ok(n) => return Ok(n),
+            Err(fault) if fault.kind() == ErrorKind::Interrupted => {}
+            Err(fault) if fault.kind() == ErrorKind::WouldBlock => {
+                let mut asks = [asked(arriving.stream.as_raw_fd())];
+                system.poll(&mut asks, millis);
+            }
+            Err(fault) => return Err(fault),
+        }
+    }
+    Err(ErrorKind::TimedOut.into())
+}
+
+/// Gives bytes that were read aside, as many as the buffer takes, and says how many.
+fn give(bytes: &[u8], buf: &mut [u8]) -> usize
+    ensures { result ≤ length buf.new }
+{
+    let n = bytes.len().min(buf.len());
+    buf[..n].copy_from_slice(&bytes[..n]);
+    n
+}
+
+/// Reads from the connection that is open, and says how many bytes: first those that were read aside.
 pub(crate) fn receive<S: System>(
     system: &mut S,
-    connection: &Connection<S::Listener, S::Stream>,
+    connection: &mut Connection<S::Listener, S::Stream>,
     buf: &mut [u8],
 ) -> io::Result<usize>
     ensures bound { ReadsAtMost result buf.new }
-    ensures shut { connection.now.served ≡ None → IsErr result }
+    ensures shut { connection.old.served ≡ None → IsErr result }
 {
-    match &connection.served {
-        Some(served) => read(system, served, buf),
-        None => Err(ErrorKind::NotConnected.into()),
+    let Some(served) = &mut connection.served else {
+        return Err(ErrorKind::NotConnected.into());
+    };
+    if served.given < served.arriving.bytes.len() {
+        let n = give(&served.arriving.bytes[served.given..], buf);
+        served.given += n;
+        return Ok(n);
+    }
+    match served.arriving.rest {
+        Rest::More => read_on(system, &served.arriving, buf),
+        Rest::Ended => Ok(0),
+        Rest::Failed => Err(ErrorKind::ConnectionReset.into()),
     }
 }
 
-/// Sends bytes on the connection that is open. After Ok the system has them all.
-pub(crate) fn send<S: System>(
-    system: &mut S,
-    connection: &Connection<S::Listener, S::Stream>,
-    bytes: &[u8],
-) -> io::Result<()>
-    ensures shut { connection.now.served ≡ None → IsErr result }
+/// Hands bytes to the system until it takes no more, and says how many it took.
+fn write_some<S: System>(system: &mut S, stream: &S::Stream, bytes: &[u8]) -> io::Result<usize>
+    ensures { WritesAtMost result bytes.now }
 {
-    let Some(served) = &connection.served else {
-        return Err(ErrorKind::NotConnected.into());
-    };
-    let ends = in_seconds(system, ANSWER_SECONDS)?;
-    write_by(system, &served.stream, bytes, ends)
+    let mut done = 0;
+    'pieces: for _ in 0..u32::MAX {
+        if done >= bytes.len() {
+            return Ok(done);
+        }
+        match system.write(stream, &bytes[done..]) {
+            Ok(0) => return Err(ErrorKind::WriteZero.into()),
+            Ok(n) => done += n,
+            Err(fault) if fault.kind() == ErrorKind::Interrupted => {}
+            Err(fault) if fault.kind() == ErrorKind::WouldBlock => return Ok(done),
+            Err(fault) => return Err(fault),
+        }
+    }
+    Ok(done)
 }
 
-/// Closes the connection that is open, if one is.
-pub(crate) fn close<S: System>(system: &mut S, connection: &mut Connection<S::Listener, S::Stream>)
+/// Sends bytes on the connection that is open. What the system doesn't take at once is kept, and goes out behind the turn.
+pub(crate) fn send<S: System>(
+    system: &mut S,
+    connection: &mut Connection<S::Listener, S::Stream>,
+    bytes: &[u8],
+) -> io::Result<()>
+    ensures shut { connection.old.served ≡ None → IsErr result }
+{
+    let Some(served) = &mut connection.served else {
+        return Err(ErrorKind::NotConnected.into());
+    };
+    let mut done = 0;
+    if served.unsent.is_empty() {
+        done = write_some(system, &served.arriving.stream, bytes)?;
+    }
+    served.unsent.extend_from_slice(&bytes[done..])?;
+    Ok(())
+}
+
+/// Closes the connection that is open, if one is: what is left of the answer goes out behind this call.
+pub(crate) fn close<S: System>(
+    system: &mut S,
+    connection: &mut Connection<S::Listener, S::Stream>,
+    departures: &mut Departures<S::Stream>,
+)
     ensures shut { connection.new.served ≡ None }
     ensures same { connection.new.listener ≡ connection.old.listener }
 {
     if let Some(served) = connection.served.take() {
-        let _ = end(system, served);
+        let Served {
+            arriving,
+            given: _,
+            unsent,
+        } = served;
+        let Arriving { stream, .. } = arriving;
+        departures::answer(system, departures, stream, unsent, 0);
     }
+}
+
+/// Lets go out what still leaves, each until its own time is over.
+pub(crate) fn leave<S: System>(
+    system: &mut S,
+    alloc: Global,
+    departures: &mut Departures<S::Stream>,
+) -> io::Result<()> {
+    for _ in 0..u64::MAX {
+        let now = system.monotonic()?;
+        departures::advance(system, departures, now);
+        if departures.is_empty() {
+            return Ok(());
+        }
+        let mut asks = Vec::new(alloc);
+        departures.asks(&mut asks)?;
+        system.poll(
+            asks.as_mut_slice(),
+            millis_until(now, departures.earliest()),
+        );
+    }
+    Ok(())
 }
