@@ -1,4 +1,5 @@
 pub mod Attachings
 pub mod FilePieces
+pub mod Leavings
 pub mod Receipts
 pub mod SilentMachines
