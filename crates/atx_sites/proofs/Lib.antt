@@ -1,4 +1,5 @@
 pub mod Attachings
+pub mod DepartureLists
 pub mod FilePieces
 pub mod Leavings
 pub mod Receipts
