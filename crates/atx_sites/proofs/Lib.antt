@@ -1,4 +1,6 @@
 pub mod Attachings
+pub mod Comings
 pub mod FilePieces
 pub mod Receipts
+pub mod Sendings
 pub mod SilentMachines

@@ -1,10 +1,9 @@
 //! Connections that are read aside, each until its turn.
 
-use crate::arriving::{Arriving, read_aside};
+use crate::arriving::{Arriving, asked, read_aside};
 use crate::deadlines::earlier;
 use crate::framing::FIELDS;
 use httparse::spans::{EMPTY_HEADER_SPAN, HeaderSpan};
-use libc::net::POLLIN;
 use libc::types::pollfd;
 use std::alloc::{AllocError, Global};
 use std::io::{self, ErrorKind};
@@ -40,15 +39,6 @@ enum Accepted<C> {
     None,
     /// The system lacks something, which passes.
     Later,
-}
-
-/// What the system is asked of a descriptor: whether there is something to read. It passes over a negative one.
-pub(crate) fn asked(fd: i32) -> pollfd {
-    pollfd {
-        fd,
-        events: POLLIN,
-        revents: 0,
-    }
 }
 
 /// Whether accept failed by the fault of one connection, or of the network on its way.
