@@ -14,6 +14,10 @@ module _ (addresses : List SocketAddr) (bytes : List ℕ) where
   pub stays : (s : Number) (k : ℕ) (old : Calls) → Goes addresses bytes s k old s k old
   stays s k old = λ _ _ _ h. h
 
+  pub goes_then : (from : Number) (sent : ℕ) (old : Calls) (s t : Number) (k j : ℕ) (mid new : Calls) → Goes addresses bytes from sent old s k mid
+      → Goes addresses bytes s k mid t j new → Goes addresses bytes from sent old t j new
+  goes_then from sent old s t k j mid new g h = λ stream n first l. h stream n first (g stream n first l)
+
   -- the bytes, as the code has them
   pub rest_of : (s : Number) (k : ℕ) (got : Answer ℕ) (mid new : Calls)
       → new ≡ then (Write s (take (length bytes - k) (drop k bytes)) got) mid → new ≡ then (Write s (drop k bytes) got) mid

@@ -1,6 +1,7 @@
 pub mod Attachings
 pub mod Comings
 pub mod FilePieces
+pub mod Leavings
 pub mod Receipts
 pub mod Sendings
 pub mod SilentMachines

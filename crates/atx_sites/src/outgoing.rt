@@ -1,6 +1,6 @@
 //! One connection with bytes that leave.
 
-ghost use Rattle.std.specs.Prelude.{◌≡◌, List, leb, length};
+ghost use Rattle.std.specs.Prelude.{◌≡◌, ◌≤◌, ℕ, List, true, length};
 ghost use Rattle.std.specs.declared.net.SocketAddr.{SocketAddr};
 ghost use Rattle.atx_sites.specs.Departures.{Begins, Goes};
 
@@ -105,7 +105,7 @@ impl<C: Drop> Outgoing<C> {
 
     /// Whether the system took all bytes.
     fn is_out(&self) -> bool
-        ensures { result ≡ leb (length self.bytes.items) self.done }
+        ensures { result ≡ true → length self.now.bytes.items ≤ self.now.done }
     {
         self.done >= self.bytes.len()
     }
@@ -148,8 +148,9 @@ pub(crate) fn connect<S: System>(
         if at >= addresses.len() {
             return None;
         }
+        let address = addresses[at];
         *next = at + 1;
-        match system.connect(&addresses[at]) {
+        match system.connect(&address) {
             Ok(stream) => return Some(stream),
             Err(_) => {}
         }
@@ -176,39 +177,40 @@ fn write<S: System>(system: &mut S, stream: &S::Stream, bytes: &[u8], done: &mut
     true
 }
 
-#[tactic(auto, using(crate::proofs::Leavings::stays, crate::proofs::Leavings::goes_begun, crate::proofs::Leavings::goes_unreached))]
 /// Writes; where an address failed before it took a byte, the next one is tried. Whether the connection still stands, or may.
-fn send<S: System>(system: &mut S, outgoing: &mut Outgoing<S::Stream>) -> bool
-    ensures calls { Goes outgoing.old.addresses.items outgoing.old.bytes.items (S.Stream.raw_fd outgoing.old.stream) outgoing.old.done (S.calls system.old) (S.Stream.raw_fd outgoing.new.stream) outgoing.new.done (S.calls system.new) }
-    ensures same { (outgoing.new.bytes ≡ outgoing.old.bytes) × (outgoing.new.addresses ≡ outgoing.old.addresses) }
+#[tactic(auto, using(crate::proofs::Leavings::stays, crate::proofs::Leavings::goes_then, crate::proofs::Leavings::goes_begun, crate::proofs::Leavings::goes_unreached))]
+fn send<S: System>(
+    system: &mut S,
+    addresses: &[SocketAddr],
+    next: &mut usize,
+    stream: &mut S::Stream,
+    bytes: &[u8],
+    done: &mut usize,
+) -> bool
+    ensures { Goes addresses.now bytes.now (S.Stream.raw_fd stream.old) done.old (S.calls system.old) (S.Stream.raw_fd stream.new) done.new (S.calls system.new) }
 {
-    'addresses: for _ in 0..outgoing.addresses.len() {
-        let stands = write(
-            system,
-            &outgoing.stream,
-            &outgoing.bytes,
-            &mut outgoing.done,
-        );
-        if stands || outgoing.done > 0 {
-            return stands;
+    'addresses: for _ in 0..addresses.len() {
+        if write(system, stream, bytes, done) {
+            return true;
         }
-        match connect(system, &outgoing.addresses, &mut outgoing.next) {
-            Some(stream) => outgoing.stream = stream,
+        if *done > 0 {
+            return false;
+        }
+        match connect(system, addresses, next) {
+            Some(begun) => *stream = begun,
             None => return false,
         }
     }
-    write(
-        system,
-        &outgoing.stream,
-        &outgoing.bytes,
-        &mut outgoing.done,
-    )
+    write(system, stream, bytes, done)
 }
 
 /// Reads away what has come. Whether more may come.
-fn read_away<S: System>(system: &mut S, stream: &S::Stream) -> bool {
+#[tactic(auto, using(crate::proofs::Leavings::stays, crate::proofs::Leavings::goes_read))]
+fn read_away<S: System>(system: &mut S, stream: &S::Stream) -> bool
+    ensures { (addresses : List SocketAddr) (bytes : List ℕ) (k : ℕ) → length bytes ≤ k → Goes addresses bytes (S.Stream.raw_fd stream.now) k (S.calls system.old) (S.Stream.raw_fd stream.now) k (S.calls system.new) }
+{
     let mut buf = [0u8; 4096];
-    for _ in 0..READS {
+    'reads: for _ in 0..READS {
         match system.read(stream, &mut buf) {
             Ok(0) => return false,
             Ok(_) => {}
@@ -231,7 +233,11 @@ fn sending(before: Stage, done: usize, stands: bool) -> Stage {
 }
 
 /// Behind the last byte: where it is an answer, nothing more is sent.
-fn end<S: System>(system: &mut S, outgoing: &mut Outgoing<S::Stream>, now: Duration) {
+#[tactic(auto, using(crate::proofs::Leavings::stays, crate::proofs::Leavings::goes_shut))]
+fn end<S: System>(system: &mut S, outgoing: &mut Outgoing<S::Stream>, now: Duration)
+    ensures calls { length outgoing.old.bytes.items ≤ outgoing.old.done → Goes outgoing.old.addresses.items outgoing.old.bytes.items (S.Stream.raw_fd outgoing.old.stream) outgoing.old.done (S.calls system.old) (S.Stream.raw_fd outgoing.new.stream) outgoing.new.done (S.calls system.new) }
+    ensures same { (outgoing.new.bytes ≡ outgoing.old.bytes) × (outgoing.new.addresses ≡ outgoing.old.addresses) }
+{
     outgoing.stage = Stage::Ending;
     if outgoing.shuts {
         outgoing.ends = in_seconds(now, LINGER_SECONDS);
@@ -244,8 +250,18 @@ fn end<S: System>(system: &mut S, outgoing: &mut Outgoing<S::Stream>, now: Durat
 }
 
 /// Sends what can be sent now.
-fn go_sending<S: System>(system: &mut S, outgoing: &mut Outgoing<S::Stream>, now: Duration) {
-    let stands = send(system, outgoing);
+fn go_sending<S: System>(system: &mut S, outgoing: &mut Outgoing<S::Stream>, now: Duration)
+    ensures calls { Goes outgoing.old.addresses.items outgoing.old.bytes.items (S.Stream.raw_fd outgoing.old.stream) outgoing.old.done (S.calls system.old) (S.Stream.raw_fd outgoing.new.stream) outgoing.new.done (S.calls system.new) }
+    ensures same { (outgoing.new.bytes ≡ outgoing.old.bytes) × (outgoing.new.addresses ≡ outgoing.old.addresses) }
+{
+    let stands = send(
+        system,
+        &outgoing.addresses,
+        &mut outgoing.next,
+        &mut outgoing.stream,
+        &outgoing.bytes,
+        &mut outgoing.done,
+    );
     if outgoing.is_out() {
         end(system, outgoing, now);
         return;
@@ -258,14 +274,20 @@ fn go_sending<S: System>(system: &mut S, outgoing: &mut Outgoing<S::Stream>, now
 }
 
 /// Reads away what can be read now.
-fn go_ending<S: System>(system: &mut S, outgoing: &mut Outgoing<S::Stream>) {
+fn go_ending<S: System>(system: &mut S, outgoing: &mut Outgoing<S::Stream>)
+    ensures calls { Goes outgoing.old.addresses.items outgoing.old.bytes.items (S.Stream.raw_fd outgoing.old.stream) outgoing.old.done (S.calls system.old) (S.Stream.raw_fd outgoing.new.stream) outgoing.new.done (S.calls system.new) }
+    ensures same { (outgoing.new.bytes ≡ outgoing.old.bytes) × (outgoing.new.addresses ≡ outgoing.old.addresses) }
+{
     if !outgoing.is_out() || !read_away(system, &outgoing.stream) {
         outgoing.stage = outgoing.closed();
     }
 }
 
 /// Does what can be done now without waiting.
-pub(crate) fn go<S: System>(system: &mut S, outgoing: &mut Outgoing<S::Stream>, now: Duration) {
+pub(crate) fn go<S: System>(system: &mut S, outgoing: &mut Outgoing<S::Stream>, now: Duration)
+    ensures calls { Goes outgoing.old.addresses.items outgoing.old.bytes.items (S.Stream.raw_fd outgoing.old.stream) outgoing.old.done (S.calls system.old) (S.Stream.raw_fd outgoing.new.stream) outgoing.new.done (S.calls system.new) }
+    ensures same { (outgoing.new.bytes ≡ outgoing.old.bytes) × (outgoing.new.addresses ≡ outgoing.old.addresses) }
+{
     if matches!(outgoing.stage, Stage::Connecting | Stage::Sending) {
         go_sending(system, outgoing, now);
     }
