@@ -106,12 +106,16 @@ pub(crate) fn read_once<S: System>(system: &mut S, arriving: &mut Arriving<S::St
 }
 
 /// Reads what has come, until its request is whole.
+#[tactic(auto, using(crate::proofs::Comings::as_late, crate::proofs::Comings::later_still))]
 pub(crate) fn read_aside<S: System>(
     system: &mut S,
     arriving: &mut Arriving<S::Stream>,
     places: &mut [HeaderSpan],
-) {
-    for _ in 0..u16::MAX {
+)
+    ensures came { (listener : Number) → HasCome S.Stream.raw_fd listener (S.calls system.old) arriving.old → HasCome S.Stream.raw_fd listener (S.calls system.new) arriving.new }
+    ensures later { Later (S.calls system.old) (S.calls system.new) }
+{
+    'reads: for _ in 0..u16::MAX {
         if !arriving.is_coming() {
             return;
         }
@@ -124,12 +128,16 @@ pub(crate) fn read_aside<S: System>(
 }
 
 /// Reads on until more than so many bytes came, or the connection ended or failed. Its time may be over before that.
+#[tactic(auto, using(crate::proofs::Comings::as_late, crate::proofs::Comings::late_by, crate::proofs::Comings::later_still, crate::proofs::Comings::still_came))]
 pub(crate) fn read_on<S: System>(
     system: &mut S,
     arriving: &mut Arriving<S::Stream>,
     had: usize,
-) -> io::Result<()> {
-    for _ in 0..u32::MAX {
+) -> io::Result<()>
+    ensures came { (listener : Number) → HasCome S.Stream.raw_fd listener (S.calls system.old) arriving.old → HasCome S.Stream.raw_fd listener (S.calls system.new) arriving.new }
+    ensures later { Later (S.calls system.old) (S.calls system.new) }
+{
+    'reads: for _ in 0..u32::MAX {
         if arriving.bytes.len() > had || arriving.rest != Rest::More {
             return Ok(());
         }
