@@ -25,7 +25,7 @@ pub sent_none : (stream : Number) (bytes : List ℕ) (old : Calls) (k j : ℕ) (
     → new ≡ then (Write stream (take (length bytes - k) (drop k bytes)) got) mid → got ≡ Err fault → j ≡ k → Sending stream bytes old j new
 sent_none stream bytes old k j mid new got fault h e r i =
     subst (λ n. Sending stream bytes old n new) (sym i)
-        (failed fault h (rest_of stream k bytes got mid new e ∙ ap (λ g. then (Write stream (drop k bytes) g) mid) r))
+    (failed fault h (rest_of stream k bytes got mid new e ∙ ap (λ g. then (Write stream (drop k bytes) g) mid) r))
 
 pub some_sent : (stream : Number) (bytes : List ℕ) (old : Calls) (k : ℕ) (new : Calls) → Sending stream bytes old k new → (j : ℕ) × Sending stream bytes old j new
 some_sent stream bytes old k new h = (k, h)

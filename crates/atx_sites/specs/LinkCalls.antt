@@ -25,7 +25,7 @@ pub data Later (old : Calls) : Calls → Type 0 where
 -- a connection that accept on the listener gave, and the bytes that reads of it gave since, in order, each once. Other calls may
 -- stand between
 pub data Came (listener stream : Number) : List ℕ → Calls → Type 0 where
-  accepted : {bytes : List ℕ} {mid new : Calls} (address : SocketAddr) → bytes ≡ [] → new ≡ then (Accept listener (Ok (stream, address))) mid
+  accepted : {bytes : List ℕ} {new : Calls} (mid : Calls) (address : SocketAddr) → bytes ≡ [] → new ≡ then (Accept listener (Ok (stream, address))) mid
       → Came listener stream bytes new
   read : {front bytes : List ℕ} {mid new : Calls} (got : List ℕ) → Came listener stream front mid → bytes ≡ front ++ got
       → new ≡ then (Read stream (Ok got)) mid → Came listener stream bytes new
