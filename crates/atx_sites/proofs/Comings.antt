@@ -1,5 +1,5 @@
 -- Connections that came, and what was read of them.
-use Rattle.std.proofs.Common.{ℕ, List, Ok, Err, [], ◌∷◌, suc, ◌≡◌, ◌<◌, ◌++◌, ◌∙◌, refl, sym, ap, subst, take, drop, length, slice_index_or}
+use Rattle.std.proofs.Common.{append_assoc, append-nil, ℕ, List, Ok, Err, [], ◌∷◌, suc, ◌≡◌, ◌<◌, ◌++◌, ◌∙◌, refl, sym, ap, subst, take, drop, length, slice_index_or}
 use Rattle.std.specs.List.{remove}
 use lib.ListN.{set}
 use Rattle.std.proofs.lemmas.List.Elements.{All-append, All-drop, All-nil, All-push, All-set, All-take, All-weaker}
@@ -7,7 +7,7 @@ use Rattle.std.specs.declared.io.Error.{Error}
 use Rattle.std.specs.declared.net.SocketAddr.{SocketAddr}
 use Rattle.system_calls.specs.Calls.{Call, Calls, Number, Answer, given, then}
 use Rattle.system_calls.specs.Calls.Call.{Accept, Read}
-use Rattle.atx_sites.specs.Arrivals.{HasCome, HaveCome}
+use Rattle.atx_sites.specs.Arrivals.{Grows, HasCome, HaveCome}
 use Rattle.atx_sites.specs.LinkCalls.{Came, Later}
 use Rattle.atx_sites.specs.LinkCalls.Later.{none, more}
 use Rattle.atx_sites.specs.LinkCalls.Came.{accepted, read, beside}
@@ -68,3 +68,12 @@ module _ {C : Type 0} (number : C → Number) (listener : Number) where
 -- a connection that was accepted
 pub came_first : (listener stream : Number) (address : SocketAddr) (mid new : Calls) → new ≡ then (Accept listener (Ok (stream, address))) mid → Came listener stream [] new
 came_first listener stream address mid new e = accepted mid address refl e
+
+pub no_more : (bytes : List ℕ) → Grows bytes bytes
+no_more bytes = ([], sym (append-nil bytes))
+
+pub grown : (old new more : List ℕ) → new ≡ old ++ more → Grows old new
+grown old new more e = (more, e)
+
+pub grown_more : (old mid new : List ℕ) → Grows old mid → Grows mid new → Grows old new
+grown_more old mid new (one, e) (two, f) = (one ++ two, f ∙ ap (λ l. l ++ two) e ∙ append_assoc old one two)

@@ -1,7 +1,7 @@
 //! One connection that is read aside.
 
 ghost use Rattle.system_calls.specs.Calls.{Number};
-ghost use Rattle.atx_sites.specs.Arrivals.{HasCome};
+ghost use Rattle.atx_sites.specs.Arrivals.{Grows, HasCome};
 ghost use Rattle.atx_sites.specs.LinkCalls.{Later};
 
 use crate::deadlines::left;
@@ -84,9 +84,10 @@ impl<C> Arriving<C> {
 }
 
 /// Reads once what has come, and says how many bytes.
-#[tactic(auto, using(crate::proofs::Comings::came_read, crate::proofs::Comings::came_by, crate::proofs::Comings::late_by))]
+#[tactic(auto, using(crate::proofs::Comings::came_read, crate::proofs::Comings::came_by, crate::proofs::Comings::late_by, crate::proofs::Comings::grown, crate::proofs::Comings::no_more))]
 pub(crate) fn read_once<S: System>(system: &mut S, arriving: &mut Arriving<S::Stream>) -> usize
     ensures came { (listener : Number) → HasCome S.Stream.raw_fd listener (S.calls system.old) arriving.old → HasCome S.Stream.raw_fd listener (S.calls system.new) arriving.new }
+    ensures grows { Grows arriving.old.bytes.items arriving.new.bytes.items }
     ensures later { Later (S.calls system.old) (S.calls system.new) }
 {
     let mut buf = [0u8; PIECE_BYTES];
@@ -128,13 +129,14 @@ pub(crate) fn read_aside<S: System>(
 }
 
 /// Reads on until more than so many bytes came, or the connection ended or failed. Its time may be over before that.
-#[tactic(auto, using(crate::proofs::Comings::as_late, crate::proofs::Comings::late_by, crate::proofs::Comings::later_still, crate::proofs::Comings::still_came))]
+#[tactic(auto, using(crate::proofs::Comings::as_late, crate::proofs::Comings::late_by, crate::proofs::Comings::later_still, crate::proofs::Comings::still_came, crate::proofs::Comings::no_more, crate::proofs::Comings::grown_more))]
 pub(crate) fn read_on<S: System>(
     system: &mut S,
     arriving: &mut Arriving<S::Stream>,
     had: usize,
 ) -> io::Result<()>
     ensures came { (listener : Number) → HasCome S.Stream.raw_fd listener (S.calls system.old) arriving.old → HasCome S.Stream.raw_fd listener (S.calls system.new) arriving.new }
+    ensures grows { Grows arriving.old.bytes.items arriving.new.bytes.items }
     ensures later { Later (S.calls system.old) (S.calls system.new) }
 {
     'reads: for _ in 0..u32::MAX {

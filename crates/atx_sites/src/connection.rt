@@ -1,14 +1,16 @@
 //! The listener of a node, the connections that are read aside, and the one that is served.
 
-ghost use Rattle.std.specs.Prelude.{◌≡◌, ◌≤◌, None, IsErr, length};
+ghost use Rattle.std.specs.Prelude.{◌≡◌, ◌≤◌, ◌<◌, ◌+◌, ◌++◌, ◌^◌, None, IsErr, OnErr, OnOk, drop, length, take};
 ghost use Rattle.std.specs.Io.{ReadsAtMost, WritesAtMost};
-ghost use Rattle.atx_sites.specs.LinkCalls.{IfListens, Sends, number_at};
+ghost use Rattle.system_calls.specs.Calls.{Number};
+ghost use Rattle.atx_sites.specs.Arrivals.{Gives, Keeps, KeepsOn, ServedCame};
+ghost use Rattle.atx_sites.specs.LinkCalls.{IfListens, Later, Sends, number_at};
 
 use crate::arriving::{Arriving, Rest, read_on};
 use crate::deadlines::{earlier, millis_until};
 use crate::departures::{self, Departures};
 use crate::waiting::{Waiting, accept_all, read_found};
-use std::alloc::Global;
+use std::alloc::{AllocError, Global};
 use std::io::{self, ErrorKind};
 use std::os::fd::AsRawFd;
 use std::time::Duration;
@@ -127,7 +129,9 @@ pub(crate) fn take<S: System>(
 
 /// Gives bytes from a place on, as many as the buffer takes, and says how many.
 fn give(bytes: &[u8], from: usize, buf: &mut [u8]) -> usize
-    ensures { result ≤ length buf.new }
+    ensures bound { result ≤ length buf.new }
+    ensures bytes { take result buf.new ≡ take result (drop from bytes.now) }
+    ensures fits { from + result < 2 ^ 64 }
 {
     if from >= bytes.len() {
         return 0;
@@ -145,17 +149,23 @@ pub(crate) fn receive<S: System>(
 ) -> io::Result<usize>
     ensures bound { ReadsAtMost result buf.new }
     ensures shut { connection.old.served ≡ None → IsErr result }
+    ensures gives { Gives buf.new result connection.old.served connection.new.served }
+    ensures came { (listener : Number) → ServedCame S.Stream.raw_fd listener (S.calls system.old) connection.old.served → ServedCame S.Stream.raw_fd listener (S.calls system.new) connection.new.served }
+    ensures same { (connection.new.listener ≡ connection.old.listener) × (connection.new.waiting ≡ connection.old.waiting) }
+    ensures later { Later (S.calls system.old) (S.calls system.new) }
 {
     let Some(served) = &mut connection.served else {
         return Err(ErrorKind::NotConnected.into());
     };
     let given = served.given;
-    read_on(system, &mut served.arriving, given)?;
+    if let Err(fault) = read_on(system, &mut served.arriving, given) {
+        return Err(fault);
+    }
     let n = give(served.arriving.bytes.as_slice(), given, buf);
     if n == 0 && served.arriving.rest == Rest::Failed {
         return Err(ErrorKind::ConnectionReset.into());
     }
-    served.given = given.saturating_add(n);
+    served.given = given + n;
     Ok(n)
 }
 
@@ -181,17 +191,33 @@ fn write_some<S: System>(system: &mut S, stream: &S::Stream, bytes: &[u8]) -> io
     Ok(done)
 }
 
+/// Keeps bytes that are to go out.
+fn keep<C>(served: &mut Served<C>, bytes: &[u8]) -> io::Result<()>
+    ensures ok { OnOk result (served.new.unsent.items ≡ served.old.unsent.items ++ bytes.now) }
+    ensures err { OnErr result (served.new.unsent.items ≡ served.old.unsent.items) }
+    ensures same { served.new.arriving ≡ served.old.arriving }
+{
+    match served.unsent.extend_from_slice(bytes) {
+        Ok(()) => Ok(()),
+        Err(AllocError) => Err(ErrorKind::OutOfMemory.into()),
+    }
+}
+
 /// Hands bytes to the system, where it took all before them, and keeps those that it doesn't take.
 fn write_or_keep<S: System>(
     system: &mut S,
     served: &mut Served<S::Stream>,
     bytes: &[u8],
-) -> io::Result<()> {
-    let mut done = 0;
-    if served.unsent.is_empty() {
-        done = write_some(system, &served.arriving.stream, bytes)?;
+) -> io::Result<()>
+    ensures kept { Keeps S.Stream.raw_fd bytes.now result served.old served.new (S.calls system.old) (S.calls system.new) }
+{
+    if !served.unsent.is_empty() {
+        return keep(served, bytes);
     }
-    Ok(served.unsent.extend_from_slice(&bytes[done..])?)
+    match write_some(system, &served.arriving.stream, bytes) {
+        Ok(done) => keep(served, &bytes[done..]),
+        Err(fault) => Err(fault),
+    }
 }
 
 /// Sends bytes on the connection that is open. What the system doesn't take at once is kept, and goes out behind the turn.
@@ -202,6 +228,8 @@ pub(crate) fn send<S: System>(
     bytes: &[u8],
 ) -> io::Result<()>
     ensures shut { connection.old.served ≡ None → IsErr result }
+    ensures kept { KeepsOn S.Stream.raw_fd bytes.now result connection.old.served connection.new.served (S.calls system.old) (S.calls system.new) }
+    ensures same { (connection.new.listener ≡ connection.old.listener) × (connection.new.waiting ≡ connection.old.waiting) }
 {
     let Some(served) = &mut connection.served else {
         return Err(ErrorKind::NotConnected.into());
