@@ -1,9 +1,17 @@
 -- Connections that leave, one behind the other.
-use Rattle.std.proofs.Common.{ℕ, List, [], ◌∷◌, ◌++◌, ◌≡◌, ◌+◌, ◌<◌, ◌≤◌, ◌∙◌, refl, sym, ap, subst, take, drop, get_or, length, slice_index_or, slice_set, arith}
+use Rattle.std.proofs.Common.{ℕ, List, Result, Err, inl, [], ◌∷◌, ◌++◌, ◌≡◌, ◌+◌, ◌<◌, ◌≤◌, ◌∙◌, refl, sym, ap, subst, take, drop, get_or, length, slice_index_or, slice_set, arith}
+use Rattle.std.specs.Prelude.{remove}
 use Rattle.std.proofs.lemmas.List.{take_all, take_more, take_more_set, drop_more, drop-set-lt, length-set}
-use Rattle.system_calls.specs.Calls.{Calls, Number}
-use Rattle.atx_sites.specs.Departures.{Advances, Goes, Went, WentAt}
+use Rattle.std.specs.declared.io.Error.{Error}
+use Rattle.std.specs.declared.net.SocketAddr.{SocketAddr}
+use Rattle.std.specs.declared.time.Duration.{Duration}
+use Rattle.system_calls.specs.Calls.{Answer, Calls, Number, then}
+use Rattle.system_calls.specs.Calls.Call.{Monotonic, Resolve}
+use Rattle.atx_sites.specs.Departures.{Advances, Goes, IsPart, Looks, Posts, PostsTo, Went, WentAt}
 use Rattle.atx_sites.specs.Departures.Advances.{none, next}
+use Rattle.atx_sites.specs.Departures.Looks.{none as no_look, clock, resolves}
+use Rattle.atx_sites.proofs.Leavings.{untried}
+use Rattle.atx_sites.specs.Departures.IsPart.{none as all_there, less}
 use Rattle.atx_sites.specs.Departures.Leaves.{none as no_call}
 use Rattle.atx_sites.specs.declared.outgoing.Outgoing.{Outgoing}
 
@@ -36,3 +44,28 @@ module _ {C : Type 0} (number : C → Number) where
       let a : take i xs ≡ xs = take_all i xs h in
       let b : take i ys ≡ ys = take_all i ys (omega (arith, h, long)) in
       subst (λ l. Advances number old xs l new) b (subst (λ l. Advances number old l (take i ys) new) a past)
+
+module _ {C : Type 0} where
+  pub one_less : (first old new : List (Outgoing C)) (i : ℕ) → IsPart first old → new ≡ remove old i → IsPart first new
+  one_less first old new i part e = less i part e
+
+  pub whole : (all : List (Outgoing C)) → IsPart all all
+  whole all = all_there refl
+
+module _ (host : List ℕ) (port : ℕ) where
+  pub unlooked : (old : Calls) → Looks host port old old
+  unlooked old = no_look refl
+
+  pub looked_clock : (old mid new : Calls) (got : Answer Duration) → Looks host port old mid → new ≡ then (Monotonic got) mid → Looks host port old new
+  looked_clock old mid new got looks e = clock got looks e
+
+  pub looked_up : (old mid new : Calls) (got : Answer (List SocketAddr)) → Looks host port old mid → new ≡ then (Resolve host port got) mid → Looks host port old new
+  looked_up old mid new got looks e = resolves got looks e
+
+module _ {C : Type 0} (number : C → Number) (bytes : List ℕ) (list : List (Outgoing C)) where
+  pub unposted : (port : ℕ) (host : List ℕ) (fault : Error) (old new : Calls) → Looks host port old new → Posts number port bytes list old (Err fault) list new
+  unposted port host fault old new looks = (host, [], new, looks, (list, whole list, inl (refl, refl, untried [] new)))
+
+pub same_bytes : {C : Type 0} (number : C → Number) (addresses : List SocketAddr) (bytes owned : List ℕ) (before after : List (Outgoing C)) (old new : Calls) (result : Result (Unit {0}) Error)
+    → owned ≡ bytes → PostsTo number addresses owned before old result after new → PostsTo number addresses bytes before old result after new
+same_bytes number addresses bytes owned before after old new result e h = subst (λ l. PostsTo number addresses l before old result after new) e h

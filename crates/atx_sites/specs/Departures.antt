@@ -1,9 +1,11 @@
 -- Which calls of the system are made on connections with bytes that leave.
-use Rattle.std.specs.Prelude.{ℕ, Bool, true, false, List, Option, Some, None, Ok, Err, [], ◌∷◌, ◌++◌, ◌≡◌, ◌+◌, ◌≤◌, length, drop, slice_index_or, slice_set, Contains}
+use Rattle.std.specs.Prelude.{ℕ, Bool, true, false, List, Option, Vec, Some, None, Result, Ok, Err, IsErr, [], ◌∷◌, ◌++◌, ◌≡◌, ◌⊎◌, ◌+◌, ◌≤◌, length, drop, slice_index_or, slice_set, remove, Contains}
 use Rattle.std.specs.declared.io.Error.{Error}
 use Rattle.std.specs.declared.net.SocketAddr.{SocketAddr}
+use Rattle.std.specs.declared.time.Duration.{Duration}
+use Rattle.std.specs.declared.alloc.Global.{Global}
 use Rattle.system_calls.specs.Calls.{Calls, Number, Answer, then}
-use Rattle.system_calls.specs.Calls.Call.{Connect, Read, ShutDown, Write}
+use Rattle.system_calls.specs.Calls.Call.{Connect, Monotonic, Read, Resolve, ShutDown, Write}
 use Rattle.atx_sites.specs.declared.outgoing.Outgoing.{Outgoing}
 use Rattle.atx_sites.specs.declared.outgoing.Stage.{Stage}
 use Rattle.atx_sites.specs.declared.outgoing.Stage.TheVariants as stages
@@ -75,3 +77,48 @@ is_over outgoing = is_last outgoing.stage
 
 abbrev pub is_lost : {C : Type 0} → Outgoing C → Bool
 is_lost outgoing = is_loss outgoing.stage
+
+-- some of them were left out, and the others are in their order
+pub data IsPart {X : Type 0} (all : List X) : List X → Type 0 where
+  none : {part : List X} → part ≡ all → IsPart all part
+  less : {mid part : List X} (i : ℕ) → IsPart all mid → part ≡ remove mid i → IsPart all part
+
+-- a post's connection was begun, to one of these addresses
+abbrev pub IfBegun : {C : Type 0} → (C → Number) → List SocketAddr → List ℕ → Option (Outgoing C) → Calls → Calls → Type 0
+IfBegun number addresses bytes (Some begun) old new =
+    Begins number addresses (Some begun.stream) old new × (begun.addresses.items ≡ addresses) × (begun.bytes.items ≡ bytes) × (begun.done ≡ 0)
+IfBegun number addresses bytes None old new = Unreached addresses old new
+
+-- it stands behind the others; or it is closed, and where that is no failure all its bytes were taken
+abbrev pub Joins : {C : Type 0} → Result (Unit {0}) Error → Outgoing C → List (Outgoing C) → List (Outgoing C) → Type 0
+Joins (Ok done) outgoing others all = (all ≡ others ++ outgoing ∷ []) ⊎ ((all ≡ others) × (length outgoing.bytes.items ≤ outgoing.done))
+Joins (Err fault) outgoing others all = all ≡ others
+
+-- one more went on as far as it could, and stands behind the others unless it is closed
+abbrev pub Starts : {C : Type 0} → (C → Number) → Outgoing C → Calls → Result (Unit {0}) Error → List (Outgoing C) → List (Outgoing C) → Calls → Type 0
+Starts {C = C} number before old result others all new = (after : Outgoing C) × Went number before old after new × Joins result after others all
+
+-- these bytes are posted to one of these addresses, where one more has room
+abbrev pub PostsTo : {C : Type 0} → (C → Number) → List SocketAddr → List ℕ → List (Outgoing C) → Calls → Result (Unit {0}) Error → List (Outgoing C) → Calls → Type 0
+PostsTo {C = C} number addresses bytes before old result after new =
+    (others : List (Outgoing C)) × IsPart before others
+    × ((IsErr result × (after ≡ others) × Unreached addresses old new)
+       ⊎ ((begun : Outgoing C) × (mid : Calls) × IfBegun number addresses bytes (Some begun) old mid × Starts number begun mid result others after new))
+
+-- the clock is read, and a host is looked up
+pub data Looks (host : List ℕ) (port : ℕ) (old : Calls) : Calls → Type 0 where
+  none : {new : Calls} → new ≡ old → Looks host port old new
+  clock : {mid new : Calls} (got : Answer Duration) → Looks host port old mid → new ≡ then (Monotonic got) mid → Looks host port old new
+  resolves : {mid new : Calls} (got : Answer (List SocketAddr)) → Looks host port old mid → new ≡ then (Resolve host port got) mid → Looks host port old new
+
+-- these bytes are posted, where the addresses of a host are known or looked up
+abbrev pub Posts : {C : Type 0} → (C → Number) → ℕ → List ℕ → List (Outgoing C) → Calls → Result (Unit {0}) Error → List (Outgoing C) → Calls → Type 0
+Posts number port bytes before old result after new =
+    (host : List ℕ) × (addresses : List SocketAddr) × (looked : Calls) × Looks host port old looked × PostsTo number addresses bytes before looked result after new
+
+-- what is left of an answer is taken over with its connection, where one more has room
+abbrev pub Answers : {C : Type 0} → (C → Number) → C → Vec ℕ Global → ℕ → List (Outgoing C) → Calls → List (Outgoing C) → Calls → Type 0
+Answers {C = C} number stream bytes sent before old after new =
+    (others : List (Outgoing C)) × IsPart before others × (mid : Calls) × ((got : Answer Duration) × (mid ≡ then (Monotonic got) old))
+    × (((after ≡ others) × (new ≡ mid))
+       ⊎ ((begun : Outgoing C) × (result : Result (Unit {0}) Error) × (begun.stream ≡ stream) × (begun.bytes ≡ bytes) × (begun.done ≡ sent) × Starts number begun mid result others after new))

@@ -1,3 +1,4 @@
+pub mod Arrivals
 pub mod Departures
 pub mod Disks
 pub mod FileCalls

@@ -1,27 +1,29 @@
 //! The listener of a node, the connections that are read aside, and the one that is served.
 
-ghost use Rattle.std.specs.Prelude.{◌≡◌, ◌≤◌, None, IsErr, length};
+ghost use Rattle.std.specs.Prelude.{◌≡◌, ◌≤◌, ◌<◌, ◌+◌, ◌++◌, ◌^◌, None, IsErr, OnErr, OnOk, drop, length, take};
 ghost use Rattle.std.specs.Io.{ReadsAtMost, WritesAtMost};
-ghost use Rattle.atx_sites.specs.LinkCalls.{IfListens, number_at};
+ghost use Rattle.system_calls.specs.Calls.{Number};
+ghost use Rattle.atx_sites.specs.Arrivals.{Gives, Keeps, KeepsOn, ServedCame};
+ghost use Rattle.atx_sites.specs.LinkCalls.{IfListens, Later, Sends, number_at};
 
-use crate::arriving::{Arriving, Rest};
-use crate::deadlines::{earlier, left, millis_until};
+use crate::arriving::{Arriving, Rest, read_on};
+use crate::deadlines::{earlier, millis_until};
 use crate::departures::{self, Departures};
-use crate::waiting::{Waiting, accept_all, asked, read_found};
-use libc::types::pollfd;
-use std::alloc::Global;
+use crate::waiting::{Waiting, accept_all, read_found};
+use std::alloc::{AllocError, Global};
 use std::io::{self, ErrorKind};
 use std::os::fd::AsRawFd;
 use std::time::Duration;
 use system_calls::system::System;
 
-/// A connection that is served: what was read aside of it, how much of that was given, and what of the answer the system
-/// hasn't taken.
+/// A connection that is served: what was read of it, how much of that was given, what of the answer the system hasn't taken,
+/// and whether some of the answer was lost.
 #[derive(Drop)]
 pub struct Served<C> {
     arriving: Arriving<C>,
     given: usize,
     unsent: Vec<u8>,
+    is_cut: bool,
 }
 
 /// A listener, the connections that are read aside, and the one that is served. Connections are served one after another.
@@ -120,39 +122,22 @@ pub(crate) fn take<S: System>(
         arriving,
         given: 0,
         unsent: Vec::new(connection.alloc),
+        is_cut: false,
     });
     Ok(())
 }
 
-/// Reads what comes on a connection, before its time ends, and says how many bytes.
-fn read_on<S: System>(
-    system: &mut S,
-    arriving: &Arriving<S::Stream>,
-    buf: &mut [u8],
-) -> io::Result<usize>
-    ensures { ReadsAtMost result buf.new }
+/// Gives bytes from a place on, as many as the buffer takes, and says how many.
+fn give(bytes: &[u8], from: usize, buf: &mut [u8]) -> usize
+    ensures bound { result ≤ length buf.new }
+    ensures bytes { take result buf.new ≡ take result (drop from bytes.now) }
+    ensures fits { from + result < 2 ^ 64 }
 {
-    for _ in 0..u16::MAX {
-        let millis = left(system, arriving.ends)?;
-        match system.read(&arriving.stream, buf) {
-            Ok(n) => return Ok(n),
-            Err(fault) if fault.kind() == ErrorKind::Interrupted => {}
-            Err(fault) if fault.kind() == ErrorKind::WouldBlock => {
-                let mut asks = [asked(arriving.stream.as_raw_fd())];
-                system.poll(&mut asks, millis);
-            }
-            Err(fault) => return Err(fault),
-        }
+    if from >= bytes.len() {
+        return 0;
     }
-    Err(ErrorKind::TimedOut.into())
-}
-
-/// Gives bytes that were read aside, as many as the buffer takes, and says how many.
-fn give(bytes: &[u8], buf: &mut [u8]) -> usize
-    ensures { result ≤ length buf.new }
-{
-    let n = bytes.len().min(buf.len());
-    buf[..n].copy_from_slice(&bytes[..n]);
+    let n = (bytes.len() - from).min(buf.len());
+    buf[..n].copy_from_slice(&bytes[from..from + n]);
     n
 }
 
@@ -164,25 +149,31 @@ pub(crate) fn receive<S: System>(
 ) -> io::Result<usize>
     ensures bound { ReadsAtMost result buf.new }
     ensures shut { connection.old.served ≡ None → IsErr result }
+    ensures gives { Gives buf.new result connection.old.served connection.new.served }
+    ensures came { (listener : Number) → ServedCame S.Stream.raw_fd listener (S.calls system.old) connection.old.served → ServedCame S.Stream.raw_fd listener (S.calls system.new) connection.new.served }
+    ensures same { (connection.new.listener ≡ connection.old.listener) × (connection.new.waiting ≡ connection.old.waiting) }
+    ensures later { Later (S.calls system.old) (S.calls system.new) }
 {
     let Some(served) = &mut connection.served else {
         return Err(ErrorKind::NotConnected.into());
     };
-    if served.given < served.arriving.bytes.len() {
-        let n = give(&served.arriving.bytes[served.given..], buf);
-        served.given += n;
-        return Ok(n);
+    let given = served.given;
+    if let Err(fault) = read_on(system, &mut served.arriving, given) {
+        return Err(fault);
     }
-    match served.arriving.rest {
-        Rest::More => read_on(system, &served.arriving, buf),
-        Rest::Ended => Ok(0),
-        Rest::Failed => Err(ErrorKind::ConnectionReset.into()),
+    let n = give(served.arriving.bytes.as_slice(), given, buf);
+    if n == 0 && served.arriving.rest == Rest::Failed {
+        return Err(ErrorKind::ConnectionReset.into());
     }
+    served.given = given + n;
+    Ok(n)
 }
 
 /// Hands bytes to the system until it takes no more, and says how many it took.
+#[tactic(auto, using(crate::proofs::Sendings::unsent, crate::proofs::Sendings::sent_more, crate::proofs::Sendings::sent_none, crate::proofs::Sendings::some_sent, crate::proofs::FilePieces::within))]
 fn write_some<S: System>(system: &mut S, stream: &S::Stream, bytes: &[u8]) -> io::Result<usize>
-    ensures { WritesAtMost result bytes.now }
+    ensures bound { WritesAtMost result bytes.now }
+    ensures calls { Sends (S.Stream.raw_fd stream.now) bytes.now result (S.calls system.old) (S.calls system.new) }
 {
     let mut done = 0;
     'pieces: for _ in 0..u32::MAX {
@@ -200,23 +191,55 @@ fn write_some<S: System>(system: &mut S, stream: &S::Stream, bytes: &[u8]) -> io
     Ok(done)
 }
 
+/// Keeps bytes that are to go out.
+fn keep<C>(served: &mut Served<C>, bytes: &[u8]) -> io::Result<()>
+    ensures ok { OnOk result (served.new.unsent.items ≡ served.old.unsent.items ++ bytes.now) }
+    ensures err { OnErr result (served.new.unsent.items ≡ served.old.unsent.items) }
+    ensures same { served.new.arriving ≡ served.old.arriving }
+{
+    match served.unsent.extend_from_slice(bytes) {
+        Ok(()) => Ok(()),
+        Err(AllocError) => Err(ErrorKind::OutOfMemory.into()),
+    }
+}
+
+/// Hands bytes to the system, where it took all before them, and keeps those that it doesn't take.
+fn write_or_keep<S: System>(
+    system: &mut S,
+    served: &mut Served<S::Stream>,
+    bytes: &[u8],
+) -> io::Result<()>
+    ensures kept { Keeps S.Stream.raw_fd bytes.now result served.old served.new (S.calls system.old) (S.calls system.new) }
+{
+    if !served.unsent.is_empty() {
+        return keep(served, bytes);
+    }
+    match write_some(system, &served.arriving.stream, bytes) {
+        Ok(done) => keep(served, &bytes[done..]),
+        Err(fault) => Err(fault),
+    }
+}
+
 /// Sends bytes on the connection that is open. What the system doesn't take at once is kept, and goes out behind the turn.
+/// Behind a failure nothing more is sent.
 pub(crate) fn send<S: System>(
     system: &mut S,
     connection: &mut Connection<S::Listener, S::Stream>,
     bytes: &[u8],
 ) -> io::Result<()>
     ensures shut { connection.old.served ≡ None → IsErr result }
+    ensures kept { KeepsOn S.Stream.raw_fd bytes.now result connection.old.served connection.new.served (S.calls system.old) (S.calls system.new) }
+    ensures same { (connection.new.listener ≡ connection.old.listener) × (connection.new.waiting ≡ connection.old.waiting) }
 {
     let Some(served) = &mut connection.served else {
         return Err(ErrorKind::NotConnected.into());
     };
-    let mut done = 0;
-    if served.unsent.is_empty() {
-        done = write_some(system, &served.arriving.stream, bytes)?;
+    if served.is_cut {
+        return Err(ErrorKind::BrokenPipe.into());
     }
-    served.unsent.extend_from_slice(&bytes[done..])?;
-    Ok(())
+    let sent = write_or_keep(system, served, bytes);
+    served.is_cut = sent.is_err();
+    sent
 }
 
 /// Closes the connection that is open, if one is: what is left of the answer goes out behind this call.
@@ -231,8 +254,8 @@ pub(crate) fn close<S: System>(
     if let Some(served) = connection.served.take() {
         let Served {
             arriving,
-            given: _,
             unsent,
+            ..
         } = served;
         let Arriving { stream, .. } = arriving;
         departures::answer(system, departures, stream, unsent, 0);

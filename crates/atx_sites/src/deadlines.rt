@@ -1,5 +1,7 @@
 //! Times that a peer is given.
 
+ghost use Rattle.atx_sites.specs.LinkCalls.{Later};
+
 use std::io::{self, ErrorKind};
 use std::time::Duration;
 use system_calls::system::System;
@@ -25,7 +27,10 @@ pub(crate) fn millis_until(now: Duration, time: Option<Duration>) -> i32 {
 }
 
 /// What is left of a time, in milliseconds. A time that is over is a failure.
-pub(crate) fn left<S: System>(system: &mut S, ends: Duration) -> io::Result<i32> {
+#[tactic(auto, using(crate::proofs::Comings::late_by))]
+pub(crate) fn left<S: System>(system: &mut S, ends: Duration) -> io::Result<i32>
+    ensures { Later (S.calls system.old) (S.calls system.new) }
+{
     let now = system.monotonic()?;
     if now >= ends {
         return Err(ErrorKind::TimedOut.into());

@@ -1,7 +1,7 @@
 //! Connections with bytes that leave: posts, and answers that weren't wholly out.
 
 ghost use Rattle.std.specs.Prelude.{◌≡◌, ◌<◌, List, IfSome, filter, length, not};
-ghost use Rattle.atx_sites.specs.Departures.{Advances, WentAt, is_over};
+ghost use Rattle.atx_sites.specs.Departures.{Advances, Answers, IfBegun, IsPart, Posts, PostsTo, Starts, WentAt, is_over};
 ghost use Rattle.atx_sites.specs.declared.outgoing.Outgoing.{Outgoing};
 
 use crate::outgoing::{self, Outgoing};
@@ -129,7 +129,10 @@ fn oldest_ending<C: Drop>(leaving: &[Outgoing<C>], host: Option<SocketAddr>) -> 
 }
 
 /// Closes the oldest whose bytes are all out; of those to one host, where one is given. Whether there was one.
-fn close_ending<C: Drop>(leaving: &mut Vec<Outgoing<C>>, host: Option<SocketAddr>) -> bool {
+#[tactic(auto, using(crate::proofs::DepartureLists::one_less))]
+fn close_ending<C: Drop>(leaving: &mut Vec<Outgoing<C>>, host: Option<SocketAddr>) -> bool
+    ensures { (first : List (Outgoing C)) → IsPart first leaving.old.items → IsPart first leaving.new.items }
+{
     match oldest_ending(leaving, host) {
         Some(at) => {
             leaving.remove(at);
@@ -140,8 +143,10 @@ fn close_ending<C: Drop>(leaving: &mut Vec<Outgoing<C>>, host: Option<SocketAddr
 }
 
 /// Makes room for so many bytes. Whether there is some.
-fn has_room_for<C: Drop>(leaving: &mut Vec<Outgoing<C>>, bytes: usize) -> bool {
-    for _ in 0..MOST {
+fn has_room_for<C: Drop>(leaving: &mut Vec<Outgoing<C>>, bytes: usize) -> bool
+    ensures { (first : List (Outgoing C)) → IsPart first leaving.old.items → IsPart first leaving.new.items }
+{
+    'rooms: for _ in 0..MOST {
         if bytes_of(leaving).saturating_add(bytes) <= MOST_BYTES {
             return true;
         }
@@ -153,16 +158,27 @@ fn has_room_for<C: Drop>(leaving: &mut Vec<Outgoing<C>>, bytes: usize) -> bool {
 }
 
 /// Makes room for one more, with so many bytes. Whether there is some.
-fn has_room<C: Drop>(leaving: &mut Vec<Outgoing<C>>, bytes: usize) -> bool {
+fn has_room<C: Drop>(leaving: &mut Vec<Outgoing<C>>, bytes: usize) -> bool
+    ensures { (first : List (Outgoing C)) → IsPart first leaving.old.items → IsPart first leaving.new.items }
+{
     if leaving.len() >= MOST && !close_ending(leaving, None) {
         return false;
     }
     has_room_for(leaving, bytes)
 }
 
-/// Makes room for one more to a host. Whether there is some.
-fn has_room_to<C: Drop>(leaving: &mut Vec<Outgoing<C>>, host: SocketAddr) -> bool {
-    count_to(leaving, Some(host)) < MOST_TO_ONE || close_ending(leaving, Some(host))
+/// Makes room for one more to a host, with so many bytes. Whether there is some.
+fn has_room_to<C: Drop>(
+    leaving: &mut Vec<Outgoing<C>>,
+    host: Option<SocketAddr>,
+    bytes: usize,
+) -> bool
+    ensures { (first : List (Outgoing C)) → IsPart first leaving.old.items → IsPart first leaving.new.items }
+{
+    if count_to(leaving, host) >= MOST_TO_ONE && !close_ending(leaving, host) {
+        return false;
+    }
+    has_room(leaving, bytes)
 }
 
 /// A post to one of these addresses, whose connection is begun.
@@ -170,30 +186,56 @@ fn begun<S: System>(
     system: &mut S,
     addresses: Vec<SocketAddr>,
     bytes: Vec<u8>,
-) -> io::Result<Outgoing<S::Stream>> {
-    let now = system.monotonic()?;
+    now: Duration,
+) -> Option<Outgoing<S::Stream>>
+    ensures { IfBegun S.Stream.raw_fd addresses.items bytes.items result (S.calls system.old) (S.calls system.new) }
+{
     let mut next = 0;
     match outgoing::connect(system, &addresses, &mut next) {
-        Some(stream) => Ok(Outgoing::post(stream, addresses, next, bytes, now)),
-        None => Err(ErrorKind::HostUnreachable.into()),
+        Some(stream) => Some(Outgoing::post(stream, addresses, next, bytes, now)),
+        None => None,
     }
 }
 
-/// Lets the one that came last go on, and takes it out where nothing is left to do. Whether it was lost.
-fn first_tries<S: System>(
+/// Lets one more go on, and puts it behind the others unless nothing is left to do. It fails where that was lost.
+fn start<S: System>(
     system: &mut S,
     leaving: &mut Vec<Outgoing<S::Stream>>,
+    mut outgoing: Outgoing<S::Stream>,
     now: Duration,
-) -> bool {
-    let Some(last) = leaving.last_mut() else {
-        return false;
-    };
-    outgoing::go(system, last, now);
-    let lost = last.is_lost();
-    if last.is_over() {
-        leaving.pop();
+) -> io::Result<()>
+    ensures { Starts S.Stream.raw_fd outgoing (S.calls system.old) result leaving.old.items leaving.new.items (S.calls system.new) }
+{
+    outgoing::go(system, &mut outgoing, now);
+    if outgoing.is_over() {
+        if outgoing.is_out() {
+            return Ok(());
+        }
+        return Err(ErrorKind::HostUnreachable.into());
     }
-    lost
+    match leaving.push(outgoing) {
+        Ok(()) => Ok(()),
+        Err(_) => Err(ErrorKind::OutOfMemory.into()),
+    }
+}
+
+/// Posts to the first of these addresses to which a connection can be begun.
+fn post_to<S: System>(
+    system: &mut S,
+    leaving: &mut Vec<Outgoing<S::Stream>>,
+    addresses: Vec<SocketAddr>,
+    bytes: Vec<u8>,
+    now: Duration,
+) -> io::Result<()>
+    ensures { PostsTo S.Stream.raw_fd addresses.items bytes.items leaving.old.items (S.calls system.old) result leaving.new.items (S.calls system.new) }
+{
+    if !has_room_to(leaving, addresses.first().copied(), bytes.len()) {
+        return Err(ErrorKind::QuotaExceeded.into());
+    }
+    match begun(system, addresses, bytes, now) {
+        Some(outgoing) => start(system, leaving, outgoing, now),
+        None => Err(ErrorKind::HostUnreachable.into()),
+    }
 }
 
 /// Posts bytes to a host, and waits for nobody but for a name to be looked up. After Ok the bytes are out or leave. After a
@@ -204,24 +246,19 @@ pub(crate) fn post<S: System>(
     host: &str,
     port: u16,
     bytes: &[u8],
-) -> io::Result<()> {
-    let addresses = resolved_names::addresses(system, &mut departures.names, host, port)?;
-    let Some(first) = addresses.first().copied() else {
+) -> io::Result<()>
+    ensures { Posts S.Stream.raw_fd port bytes.now departures.old.leaving.items (S.calls system.old) result departures.new.leaving.items (S.calls system.new) }
+{
+    let Ok(addresses) = resolved_names::addresses(system, &mut departures.names, host, port) else {
         return Err(ErrorKind::HostUnreachable.into());
     };
-    if !has_room_to(&mut departures.leaving, first)
-        || !has_room(&mut departures.leaving, bytes.len())
-    {
-        return Err(ErrorKind::QuotaExceeded.into());
-    }
-    let bytes = Vec::from_slice(departures.alloc, bytes)?;
-    let begun = begun(system, addresses, bytes)?;
-    departures.leaving.push(begun)?;
-    let now = system.monotonic()?;
-    if first_tries(system, &mut departures.leaving, now) {
-        return Err(ErrorKind::HostUnreachable.into());
-    }
-    Ok(())
+    let Ok(now) = system.monotonic() else {
+        return Err(ErrorKind::Other.into());
+    };
+    let Ok(bytes) = Vec::from_slice(departures.alloc, bytes) else {
+        return Err(ErrorKind::OutOfMemory.into());
+    };
+    post_to(system, &mut departures.leaving, addresses, bytes, now)
 }
 
 /// Takes over a connection with its answer, of which the system took `done` bytes. It is closed behind the answer. Where there
@@ -232,17 +269,18 @@ pub(crate) fn answer<S: System>(
     stream: S::Stream,
     bytes: Vec<u8>,
     done: usize,
-) {
+)
+    ensures { Answers S.Stream.raw_fd stream bytes done departures.old.leaving.items (S.calls system.old) departures.new.leaving.items (S.calls system.new) }
+{
     let Ok(now) = system.monotonic() else {
         return;
     };
-    if has_room(&mut departures.leaving, bytes.len()) {
-        let leaves = Outgoing::answer(departures.alloc, stream, bytes, done, now);
-        if departures.leaving.push(leaves).is_ok() {
-            if first_tries(system, &mut departures.leaving, now) {
-                departures.lost = departures.lost.saturating_add(1);
-            }
-        }
+    if !has_room(&mut departures.leaving, bytes.len()) {
+        return;
+    }
+    let outgoing = Outgoing::answer(departures.alloc, stream, bytes, done, now);
+    if start(system, &mut departures.leaving, outgoing, now).is_err() {
+        departures.lost = departures.lost.saturating_add(1);
     }
 }
 

@@ -70,7 +70,9 @@ impl<C: Drop> Outgoing<C> {
         next: usize,
         bytes: Vec<u8>,
         now: Duration,
-    ) -> Outgoing<C> {
+    ) -> Outgoing<C>
+        ensures { (result.stream ≡ stream) × (result.addresses ≡ addresses) × (result.bytes ≡ bytes) × (result.done ≡ 0) }
+    {
         Outgoing {
             stream,
             bytes,
@@ -90,7 +92,9 @@ impl<C: Drop> Outgoing<C> {
         bytes: Vec<u8>,
         done: usize,
         now: Duration,
-    ) -> Outgoing<C> {
+    ) -> Outgoing<C>
+        ensures { (result.stream ≡ stream) × (result.bytes ≡ bytes) × (result.done ≡ done) }
+    {
         Outgoing {
             stream,
             bytes,
@@ -104,7 +108,7 @@ impl<C: Drop> Outgoing<C> {
     }
 
     /// Whether the system took all bytes.
-    fn is_out(&self) -> bool
+    pub(crate) fn is_out(&self) -> bool
         ensures { result ≡ true → length self.now.bytes.items ≤ self.now.done }
     {
         self.done >= self.bytes.len()

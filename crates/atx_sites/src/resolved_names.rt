@@ -1,6 +1,8 @@
 //! Names of hosts that were looked up.
 
-ghost use Rattle.std.specs.Prelude.{◌<◌, IfSome, length};
+ghost use Rattle.std.specs.Prelude.{◌<◌, ℕ, List, IfSome, length};
+ghost use Rattle.system_calls.specs.Calls.{Calls};
+ghost use Rattle.atx_sites.specs.Departures.{Looks};
 
 use std::alloc::{AllocError, Global};
 use std::io::{self, ErrorKind};
@@ -61,12 +63,15 @@ fn place(names: &[Name], host: &str, port: u16, now: Duration) -> Option<usize>
 }
 
 /// Looks a host up. None is found where that fails.
+#[tactic(auto, using(crate::proofs::DepartureLists::unlooked, crate::proofs::DepartureLists::looked_clock, crate::proofs::DepartureLists::looked_up))]
 fn look_up<S: System>(
     system: &mut S,
     alloc: Global,
     host: &str,
     port: u16,
-) -> Result<Vec<SocketAddr>, AllocError> {
+) -> Result<Vec<SocketAddr>, AllocError>
+    ensures { (first : Calls) → Looks host.now port first (S.calls system.old) → Looks host.now port first (S.calls system.new) }
+{
     let mut found = Vec::new(alloc);
     if let Ok(addresses) = system.resolve(host, port) {
         for address in addresses {
@@ -84,14 +89,24 @@ fn keep(names: &mut Vec<Name>, name: Name) -> Result<(), AllocError> {
     Ok(names.push(name)?)
 }
 
+/// The clock.
+fn clock<S: System>(system: &mut S) -> io::Result<Duration>
+    ensures { (host : List ℕ) (port : ℕ) (first : Calls) → Looks host port first (S.calls system.old) → Looks host port first (S.calls system.new) }
+{
+    system.monotonic()
+}
+
 /// The addresses of a name, which is looked up where it isn't kept.
+#[tactic(auto, using(crate::proofs::DepartureLists::unlooked, crate::proofs::DepartureLists::looked_clock, crate::proofs::DepartureLists::looked_up))]
 fn addresses_of_name<S: System>(
     system: &mut S,
     names: &mut ResolvedNames,
     host: &str,
     port: u16,
-) -> io::Result<Vec<SocketAddr>> {
-    let now = system.monotonic()?;
+) -> io::Result<Vec<SocketAddr>>
+    ensures { (first : Calls) → Looks host.now port first (S.calls system.old) → Looks host.now port first (S.calls system.new) }
+{
+    let now = clock(system)?;
     if let Some(at) = place(&names.names, host, port, now) {
         return Ok(names.names[at].addresses.clone()?);
     }
@@ -117,7 +132,9 @@ pub(crate) fn addresses<S: System>(
     names: &mut ResolvedNames,
     host: &str,
     port: u16,
-) -> io::Result<Vec<SocketAddr>> {
+) -> io::Result<Vec<SocketAddr>>
+    ensures { (name : List ℕ) × Looks name port (S.calls system.old) (S.calls system.new) }
+{
     let host = bare(host);
     if let Ok(ip) = host.parse::<IpAddr>() {
         let mut found = Vec::new(names.alloc);

@@ -1,10 +1,14 @@
 //! Connections that are read aside, each until its turn.
 
-use crate::arriving::{Arriving, read_aside};
+ghost use Rattle.std.specs.Prelude.{◌<◌, [], IfSome, length};
+ghost use Rattle.system_calls.specs.Calls.{Calls, Number};
+ghost use Rattle.atx_sites.specs.Arrivals.{HasCome, HaveCome, IfCame};
+ghost use Rattle.atx_sites.specs.LinkCalls.{Came, Later};
+
+use crate::arriving::{Arriving, asked, read_aside};
 use crate::deadlines::earlier;
 use crate::framing::FIELDS;
 use httparse::spans::{EMPTY_HEADER_SPAN, HeaderSpan};
-use libc::net::POLLIN;
 use libc::types::pollfd;
 use std::alloc::{AllocError, Global};
 use std::io::{self, ErrorKind};
@@ -34,28 +38,12 @@ pub struct Waiting<C> {
     pause: Option<Duration>,
 }
 
-/// What became of one try to accept.
-enum Accepted<C> {
-    One(C),
-    None,
-    /// The system lacks something, which passes.
-    Later,
-}
-
-/// What the system is asked of a descriptor: whether there is something to read. It passes over a negative one.
-pub(crate) fn asked(fd: i32) -> pollfd {
-    pollfd {
-        fd,
-        events: POLLIN,
-        revents: 0,
-    }
-}
-
-/// Whether accept failed by the fault of one connection, or of the network on its way.
+/// Whether accept failed as nobody has come, or by the fault of one connection, or of the network on its way.
 fn is_passing(kind: ErrorKind) -> bool {
     matches!(
         kind,
-        ErrorKind::ConnectionAborted
+        ErrorKind::WouldBlock
+            | ErrorKind::ConnectionAborted
             | ErrorKind::ConnectionReset
             | ErrorKind::Interrupted
             | ErrorKind::TimedOut
@@ -122,18 +110,29 @@ impl<C: AsRawFd + Drop> Waiting<C> {
     }
 
     /// Closes those whose time is over without a byte.
-    fn close_silent(&mut self, now: Duration) {
-        self.arriving.retain(|arriving| !arriving.is_silent(now));
+    #[tactic(auto, using(crate::proofs::Comings::have_removed))]
+    fn close_silent(&mut self, now: Duration)
+        ensures { (number : C → Number) (listener : Number) (calls : Calls) → HaveCome number listener calls self.old.arriving.items → HaveCome number listener calls self.new.arriving.items }
+    {
+        'silent: for _ in 0..MOST {
+            match place_of_silent(self.arriving.as_slice(), now) {
+                Some(place) => drop(self.arriving.remove(place)),
+                None => return,
+            }
+        }
     }
 
     /// The first whose turn may come.
-    pub(crate) fn ready(&mut self, now: Duration) -> Option<Arriving<C>> {
+    #[tactic(auto, using(crate::proofs::Comings::have_removed, crate::proofs::Comings::has_taken))]
+    pub(crate) fn ready(&mut self, now: Duration) -> Option<Arriving<C>>
+        ensures came { (number : C → Number) (listener : Number) (calls : Calls) → HaveCome number listener calls self.old.arriving.items → HaveCome number listener calls self.new.arriving.items }
+        ensures taken { (number : C → Number) (listener : Number) (calls : Calls) → HaveCome number listener calls self.old.arriving.items → IfSome result (HasCome number listener calls) }
+    {
         self.close_silent(now);
-        let place = self
-            .arriving
-            .iter()
-            .position(|arriving| arriving.is_ready(now))?;
-        Some(self.arriving.remove(place))
+        match place_of_ready(self.arriving.as_slice(), now) {
+            Some(place) => Some(self.arriving.remove(place)),
+            None => None,
+        }
     }
 
     /// The bytes of all.
@@ -145,38 +144,101 @@ impl<C: AsRawFd + Drop> Waiting<C> {
         bytes
     }
 
-    /// Keeps one more. Where too many wait, the oldest whose turn can't come yet is closed.
-    fn keep(&mut self, arriving: Arriving<C>, now: Duration) {
-        if self.arriving.len() >= MOST {
-            match self.arriving.iter().position(|old| !old.is_ready(now)) {
-                Some(place) => drop(self.arriving.remove(place)),
-                None => return,
-            }
+    /// Makes room for one more: where too many wait, the oldest whose turn can't come yet is closed. Whether there is some.
+    #[tactic(auto, using(crate::proofs::Comings::have_removed))]
+    fn has_room(&mut self, now: Duration) -> bool
+        ensures { (number : C → Number) (listener : Number) (calls : Calls) → HaveCome number listener calls self.old.arriving.items → HaveCome number listener calls self.new.arriving.items }
+    {
+        if self.arriving.len() < MOST {
+            return true;
         }
-        let _ = self.arriving.push(arriving);
+        match place_of_coming(self.arriving.as_slice(), now) {
+            Some(place) => {
+                drop(self.arriving.remove(place));
+                true
+            }
+            None => false,
+        }
+    }
+
+    /// Keeps one more, where there is room and memory for it, and where all have not too many bytes then.
+    #[tactic(auto, using(crate::proofs::Comings::have_pushed))]
+    fn keep(&mut self, arriving: Arriving<C>, now: Duration)
+        ensures { (number : C → Number) (listener : Number) (calls : Calls) → HaveCome number listener calls self.old.arriving.items → HasCome number listener calls arriving → HaveCome number listener calls self.new.arriving.items }
+    {
+        if self.has_room(now) && self.bytes().saturating_add(arriving.bytes.len()) <= MOST_BYTES {
+            let _ = self.arriving.push(arriving);
+        }
     }
 }
 
-/// Reads aside what came on one of them. Where all have too many bytes then, it is closed.
-fn read_at<S: System>(system: &mut S, waiting: &mut Waiting<S::Stream>, place: usize) -> bool {
-    if let Some(arriving) = waiting.arriving.get_mut(place) {
-        read_aside(system, arriving, waiting.places.as_mut_slice());
+/// The first whose time is over without a byte.
+fn place_of_silent<C>(arrivals: &[Arriving<C>], now: Duration) -> Option<usize>
+    ensures { IfSome result (λ i. i < length arrivals.now) }
+{
+    for i in 0..arrivals.len() {
+        if arrivals[i].is_silent(now) {
+            return Some(i);
+        }
     }
-    if waiting.bytes() > MOST_BYTES && place < waiting.arriving.len() {
-        drop(waiting.arriving.remove(place));
-        return false;
+    None
+}
+
+/// The first whose turn may come.
+fn place_of_ready<C>(arrivals: &[Arriving<C>], now: Duration) -> Option<usize>
+    ensures { IfSome result (λ i. i < length arrivals.now) }
+{
+    for i in 0..arrivals.len() {
+        if arrivals[i].is_ready(now) {
+            return Some(i);
+        }
     }
-    true
+    None
+}
+
+/// The first whose turn can't come yet.
+fn place_of_coming<C>(arrivals: &[Arriving<C>], now: Duration) -> Option<usize>
+    ensures { IfSome result (λ i. i < length arrivals.now) }
+{
+    for i in 0..arrivals.len() {
+        if !arrivals[i].is_ready(now) {
+            return Some(i);
+        }
+    }
+    None
+}
+
+/// Reads aside what came on one of them. Where all have too many bytes then, it is closed. Whether it is still there.
+#[tactic(auto, using(crate::proofs::Comings::have_still, crate::proofs::Comings::have_set, crate::proofs::Comings::has_taken, crate::proofs::Comings::have_removed))]
+fn read_at<S: System>(system: &mut S, waiting: &mut Waiting<S::Stream>, place: usize) -> bool
+    requires { place < length waiting.old.arriving.items }
+    ensures came { (listener : Number) → HaveCome S.Stream.raw_fd listener (S.calls system.old) waiting.old.arriving.items → HaveCome S.Stream.raw_fd listener (S.calls system.new) waiting.new.arriving.items }
+    ensures later { Later (S.calls system.old) (S.calls system.new) }
+{
+    read_aside(
+        system,
+        &mut waiting.arriving[place],
+        waiting.places.as_mut_slice(),
+    );
+    if waiting.bytes() <= MOST_BYTES {
+        return true;
+    }
+    drop(waiting.arriving.remove(place));
+    false
 }
 
 /// Reads aside what poll found on each of them.
+#[tactic(auto, using(crate::proofs::Comings::as_late, crate::proofs::Comings::later_still))]
 pub(crate) fn read_found<S: System>(
     system: &mut S,
     waiting: &mut Waiting<S::Stream>,
     found: &[pollfd],
-) {
+)
+    ensures came { (listener : Number) → HaveCome S.Stream.raw_fd listener (S.calls system.old) waiting.old.arriving.items → HaveCome S.Stream.raw_fd listener (S.calls system.new) waiting.new.arriving.items }
+    ensures later { Later (S.calls system.old) (S.calls system.new) }
+{
     let mut place = 0;
-    for ask in found {
+    'found: for ask in found {
         if place >= waiting.arriving.len() {
             return;
         }
@@ -186,40 +248,62 @@ pub(crate) fn read_found<S: System>(
     }
 }
 
+/// Accepts a connection, if one has come. Where the system lacks something, accepting pauses.
+#[tactic(auto, using(crate::proofs::Comings::came_first, crate::proofs::Comings::late_by))]
 fn accept_one<S: System>(
     system: &mut S,
     listener: &S::Listener,
-) -> io::Result<Accepted<S::Stream>> {
+    pause: &mut Option<Duration>,
+    now: Duration,
+) -> io::Result<Option<S::Stream>>
+    ensures came { IfCame S.Stream.raw_fd (S.Listener.raw_fd listener.now) (S.calls system.new) result }
+    ensures later { Later (S.calls system.old) (S.calls system.new) }
+{
     match system.accept(listener) {
-        Ok((stream, _)) => Ok(Accepted::One(stream)),
-        Err(fault) if fault.kind() == ErrorKind::WouldBlock => Ok(Accepted::None),
-        Err(fault) if is_passing(fault.kind()) => Ok(Accepted::None),
-        Err(fault) if is_wanting(&fault) => Ok(Accepted::Later),
+        Ok((stream, _)) => Ok(Some(stream)),
+        Err(fault) if is_passing(fault.kind()) => Ok(None),
+        Err(fault) if is_wanting(&fault) => {
+            *pause = Some(now.saturating_add(Duration::from_millis(PAUSE_MILLIS)));
+            Ok(None)
+        }
         Err(fault) => Err(fault),
     }
 }
 
+/// Reads aside what came on a connection that was accepted, and keeps it.
+#[tactic(auto, using(crate::proofs::Comings::have_still))]
+fn begin<S: System>(
+    system: &mut S,
+    waiting: &mut Waiting<S::Stream>,
+    stream: S::Stream,
+    now: Duration,
+)
+    ensures came { (listener : Number) → Came listener (S.Stream.raw_fd stream) [] (S.calls system.old) → HaveCome S.Stream.raw_fd listener (S.calls system.old) waiting.old.arriving.items → HaveCome S.Stream.raw_fd listener (S.calls system.new) waiting.new.arriving.items }
+    ensures later { Later (S.calls system.old) (S.calls system.new) }
+{
+    let ends = now.saturating_add(Duration::from_secs(REQUEST_SECONDS));
+    let mut arriving = Arriving::new(waiting.alloc, stream, ends);
+    read_aside(system, &mut arriving, waiting.places.as_mut_slice());
+    waiting.keep(arriving, now);
+}
+
 /// Accepts the connections that have come, and reads aside what came on them.
+#[tactic(auto, using(crate::proofs::Comings::as_late, crate::proofs::Comings::later_still, crate::proofs::Comings::have_still))]
 pub(crate) fn accept_all<S: System>(
     system: &mut S,
     waiting: &mut Waiting<S::Stream>,
     listener: &S::Listener,
     now: Duration,
-) -> io::Result<()> {
+) -> io::Result<()>
+    ensures came { HaveCome S.Stream.raw_fd (S.Listener.raw_fd listener.now) (S.calls system.old) waiting.old.arriving.items → HaveCome S.Stream.raw_fd (S.Listener.raw_fd listener.now) (S.calls system.new) waiting.new.arriving.items }
+    ensures later { Later (S.calls system.old) (S.calls system.new) }
+{
     waiting.pause = None;
-    for _ in 0..MOST {
-        match accept_one(system, listener)? {
-            Accepted::One(stream) => {
-                let ends = now.saturating_add(Duration::from_secs(REQUEST_SECONDS));
-                let mut arriving = Arriving::new(waiting.alloc, stream, ends);
-                read_aside(system, &mut arriving, waiting.places.as_mut_slice());
-                waiting.keep(arriving, now);
-            }
-            Accepted::None => return Ok(()),
-            Accepted::Later => {
-                waiting.pause = Some(now.saturating_add(Duration::from_millis(PAUSE_MILLIS)));
-                return Ok(());
-            }
+    'accepted: for _ in 0..MOST {
+        match accept_one(system, listener, &mut waiting.pause, now) {
+            Ok(Some(stream)) => begin(system, waiting, stream, now),
+            Ok(None) => return Ok(()),
+            Err(fault) => return Err(fault),
         }
     }
     Ok(())
