@@ -3,6 +3,7 @@ pub mod Comings
 pub mod DepartureLists
 pub mod FilePieces
 pub mod Leavings
+pub mod Pushes
 pub mod Receipts
 pub mod Sendings
 pub mod SilentMachines

@@ -213,10 +213,10 @@ fn start<S: System>(
         }
         return Err(ErrorKind::HostUnreachable.into());
     }
-    match leaving.push(outgoing) {
-        Ok(()) => Ok(()),
-        Err(_) => Err(ErrorKind::OutOfMemory.into()),
+    if leaving.push(outgoing).is_err() {
+        return Err(ErrorKind::OutOfMemory.into());
     }
+    Ok(())
 }
 
 /// Posts to the first of these addresses to which a connection can be begun.
@@ -240,6 +240,7 @@ fn post_to<S: System>(
 
 /// Posts bytes to a host, and waits for nobody but for a name to be looked up. After Ok the bytes are out or leave. After a
 /// failure the peer may have a beginning of them.
+#[tactic(auto, using(crate::proofs::DepartureLists::unposted, crate::proofs::DepartureLists::looked_clock))]
 pub(crate) fn post<S: System>(
     system: &mut S,
     departures: &mut Departures<S::Stream>,

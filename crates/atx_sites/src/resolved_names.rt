@@ -112,9 +112,7 @@ fn addresses_of_name<S: System>(
     }
     let addresses = look_up(system, names.alloc, host, port)?;
     let answer = addresses.clone()?;
-    let ends = system
-        .monotonic()?
-        .saturating_add(Duration::from_secs(KEPT_SECONDS));
+    let ends = clock(system)?.saturating_add(Duration::from_secs(KEPT_SECONDS));
     let name = Name {
         host: String::from_str(names.alloc, host)?,
         port,

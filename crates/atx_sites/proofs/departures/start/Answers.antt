@@ -1,5 +1,6 @@
-use Rattle.std.proofs.Common.{inl, inr, refl}
+use Rattle.std.proofs.Common.{◌∙◌, inl, inr, refl, sym}
 use Rattle.atx_sites.proofs.DepartureLists.{went}
+use Rattle.atx_sites.proofs.Pushes.{not_pushed, pushed}
 use Rattle.atx_sites.proofs.departures.start.Goals as goal
 
 pub returns-then-is_out : goal.returns-then-is_out
@@ -9,10 +10,12 @@ returns-then-is_out g c =
 pub returns-then-is_over : goal.returns-then-is_over
 returns-then-is_over g c = (c.go.new.outgoing, went g.S.Stream.AsRawFd.raw_fd c.args.outgoing c.go.new.outgoing _ _ c.go.ensures.calls c.go.ensures.same, refl)
 
-pub returns-in-Ok : goal.returns-in-Ok
-returns-in-Ok g c =
-    (c.go.new.outgoing, went g.S.Stream.AsRawFd.raw_fd c.args.outgoing c.go.new.outgoing _ _ c.go.ensures.calls c.go.ensures.same, inl c.in-Ok.ensures.items)
+pub returns-then-is_err : goal.returns-then-is_err
+returns-then-is_err g c =
+    (c.go.new.outgoing, went g.S.Stream.AsRawFd.raw_fd c.args.outgoing c.go.new.outgoing _ _ c.go.ensures.calls c.go.ensures.same,
+      not_pushed c.push.result _ _ _ (sym c.is_err.ensures.value ∙ c.if-is_err.true) c.push.ensures.items)
 
-pub returns-in-Err : goal.returns-in-Err
-returns-in-Err g c =
-    (c.go.new.outgoing, went g.S.Stream.AsRawFd.raw_fd c.args.outgoing c.go.new.outgoing _ _ c.go.ensures.calls c.go.ensures.same, c.in-Err.ensures.items)
+pub returns : goal.returns
+returns g c =
+    (c.go.new.outgoing, went g.S.Stream.AsRawFd.raw_fd c.args.outgoing c.go.new.outgoing _ _ c.go.ensures.calls c.go.ensures.same,
+      inl (pushed c.push.result _ _ _ (sym c.is_err.ensures.value ∙ c.if-is_err.false) c.push.ensures.items))
