@@ -1,5 +1,5 @@
 -- Connections that leave, one behind the other.
-use Rattle.std.proofs.Common.{ℕ, List, Result, Err, inl, [], ◌∷◌, ◌++◌, ◌≡◌, ◌+◌, ◌<◌, ◌≤◌, ◌∙◌, refl, sym, ap, subst, take, drop, get_or, length, slice_index_or, slice_set, arith}
+use Rattle.std.proofs.Common.{ℕ, List, Result, [], ◌∷◌, ◌++◌, ◌≡◌, ◌+◌, ◌<◌, ◌≤◌, ◌∙◌, refl, sym, ap, subst, take, drop, get_or, length, slice_index_or, slice_set, arith}
 use Rattle.std.specs.Prelude.{remove}
 use Rattle.std.proofs.lemmas.List.{take_all, take_more, take_more_set, drop_more, drop-set-lt, length-set}
 use Rattle.std.specs.declared.io.Error.{Error}
@@ -7,10 +7,9 @@ use Rattle.std.specs.declared.net.SocketAddr.{SocketAddr}
 use Rattle.std.specs.declared.time.Duration.{Duration}
 use Rattle.system_calls.specs.Calls.{Answer, Calls, Number, then}
 use Rattle.system_calls.specs.Calls.Call.{Monotonic, Resolve}
-use Rattle.atx_sites.specs.Departures.{Advances, Goes, IsPart, Looks, Posts, PostsTo, Went, WentAt}
+use Rattle.atx_sites.specs.Departures.{Advances, Goes, IsPart, Looks, PostsTo, Went, WentAt}
 use Rattle.atx_sites.specs.Departures.Advances.{none, next}
 use Rattle.atx_sites.specs.Departures.Looks.{none as no_look, clock, resolves}
-use Rattle.atx_sites.proofs.Leavings.{untried}
 use Rattle.atx_sites.specs.Departures.IsPart.{none as all_there, less}
 use Rattle.atx_sites.specs.Departures.Leaves.{none as no_call}
 use Rattle.atx_sites.specs.declared.outgoing.Outgoing.{Outgoing}
@@ -61,10 +60,6 @@ module _ (host : List ℕ) (port : ℕ) where
 
   pub looked_up : (old mid new : Calls) (got : Answer (List SocketAddr)) → Looks host port old mid → new ≡ then (Resolve host port got) mid → Looks host port old new
   looked_up old mid new got looks e = resolves got looks e
-
-module _ {C : Type 0} (number : C → Number) (bytes : List ℕ) (list : List (Outgoing C)) where
-  pub unposted : (port : ℕ) (host : List ℕ) (fault : Error) (old new : Calls) → Looks host port old new → Posts number port bytes list old (Err fault) list new
-  unposted port host fault old new looks = (host, [], new, looks, (list, whole list, inl (refl, refl, untried [] new)))
 
 pub same_bytes : {C : Type 0} (number : C → Number) (addresses : List SocketAddr) (bytes owned : List ℕ) (before after : List (Outgoing C)) (old new : Calls) (result : Result (Unit {0}) Error)
     → owned ≡ bytes → PostsTo number addresses owned before old result after new → PostsTo number addresses bytes before old result after new

@@ -103,7 +103,7 @@ abbrev pub PostsTo : {C : Type 0} → (C → Number) → List SocketAddr → Lis
 PostsTo {C = C} number addresses bytes before old result after new =
     (others : List (Outgoing C)) × IsPart before others
     × ((IsErr result × (after ≡ others) × Unreached addresses old new)
-       ⊎ ((begun : Outgoing C) × (mid : Calls) × IfBegun number addresses bytes (Some begun) old mid × Starts number begun mid result others after new))
+    ⊎ ((begun : Outgoing C) × (mid : Calls) × IfBegun number addresses bytes (Some begun) old mid × Starts number begun mid result others after new))
 
 -- the clock is read, and a host is looked up
 pub data Looks (host : List ℕ) (port : ℕ) (old : Calls) : Calls → Type 0 where
@@ -121,4 +121,4 @@ abbrev pub Answers : {C : Type 0} → (C → Number) → C → Vec ℕ Global �
 Answers {C = C} number stream bytes sent before old after new =
     (others : List (Outgoing C)) × IsPart before others × (mid : Calls) × ((got : Answer Duration) × (mid ≡ then (Monotonic got) old))
     × (((after ≡ others) × (new ≡ mid))
-       ⊎ ((begun : Outgoing C) × (result : Result (Unit {0}) Error) × (begun.stream ≡ stream) × (begun.bytes ≡ bytes) × (begun.done ≡ sent) × Starts number begun mid result others after new))
+    ⊎ ((begun : Outgoing C) × (result : Result (Unit {0}) Error) × (begun.stream ≡ stream) × (begun.bytes ≡ bytes) × (begun.done ≡ sent) × Starts number begun mid result others after new))

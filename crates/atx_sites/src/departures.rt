@@ -240,7 +240,6 @@ fn post_to<S: System>(
 
 /// Posts bytes to a host, and waits for nobody but for a name to be looked up. After Ok the bytes are out or leave. After a
 /// failure the peer may have a beginning of them.
-#[tactic(auto, using(crate::proofs::DepartureLists::unposted, crate::proofs::DepartureLists::looked_clock))]
 pub(crate) fn post<S: System>(
     system: &mut S,
     departures: &mut Departures<S::Stream>,

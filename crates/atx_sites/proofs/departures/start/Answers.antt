@@ -11,11 +11,15 @@ pub returns-then-is_over : goal.returns-then-is_over
 returns-then-is_over g c = (c.go.new.outgoing, went g.S.Stream.AsRawFd.raw_fd c.args.outgoing c.go.new.outgoing _ _ c.go.ensures.calls c.go.ensures.same, refl)
 
 pub returns-then-is_err : goal.returns-then-is_err
-returns-then-is_err g c =
-    (c.go.new.outgoing, went g.S.Stream.AsRawFd.raw_fd c.args.outgoing c.go.new.outgoing _ _ c.go.ensures.calls c.go.ensures.same,
-      not_pushed c.push.result _ _ _ (sym c.is_err.ensures.value ∙ c.if-is_err.true) c.push.ensures.items)
+returns-then-is_err g c = (
+  c.go.new.outgoing,
+  went g.S.Stream.AsRawFd.raw_fd c.args.outgoing c.go.new.outgoing _ _ c.go.ensures.calls c.go.ensures.same,
+  not_pushed c.push.result _ _ _ (sym c.is_err.ensures.value ∙ c.if-is_err.true) c.push.ensures.items,
+)
 
 pub returns : goal.returns
-returns g c =
-    (c.go.new.outgoing, went g.S.Stream.AsRawFd.raw_fd c.args.outgoing c.go.new.outgoing _ _ c.go.ensures.calls c.go.ensures.same,
-      inl (pushed c.push.result _ _ _ (sym c.is_err.ensures.value ∙ c.if-is_err.false) c.push.ensures.items))
+returns g c = (
+  c.go.new.outgoing,
+  went g.S.Stream.AsRawFd.raw_fd c.args.outgoing c.go.new.outgoing _ _ c.go.ensures.calls c.go.ensures.same,
+  inl (pushed c.push.result _ _ _ (sym c.is_err.ensures.value ∙ c.if-is_err.false) c.push.ensures.items),
+)
