@@ -1,5 +1,6 @@
 pub mod Attachings
 pub mod Comings
+pub mod DepartureLists
 pub mod FilePieces
 pub mod Leavings
 pub mod Receipts

@@ -1,9 +1,12 @@
 -- Which calls of the system are made on connections with bytes that leave.
-use Rattle.std.specs.Prelude.{ℕ, List, Option, Some, None, Ok, Err, ◌≡◌, ◌+◌, ◌≤◌, length, drop, Contains}
+use Rattle.std.specs.Prelude.{ℕ, Bool, true, false, List, Option, Some, None, Ok, Err, [], ◌∷◌, ◌++◌, ◌≡◌, ◌+◌, ◌≤◌, length, drop, slice_index_or, slice_set, Contains}
 use Rattle.std.specs.declared.io.Error.{Error}
 use Rattle.std.specs.declared.net.SocketAddr.{SocketAddr}
 use Rattle.system_calls.specs.Calls.{Calls, Number, Answer, then}
 use Rattle.system_calls.specs.Calls.Call.{Connect, Read, ShutDown, Write}
+use Rattle.atx_sites.specs.declared.outgoing.Outgoing.{Outgoing}
+use Rattle.atx_sites.specs.declared.outgoing.Stage.{Stage}
+use Rattle.atx_sites.specs.declared.outgoing.Stage.TheVariants as stages
 
 -- The calls of one connection, from where `sent` of its bytes were taken: each write is of all that those before it didn't take.
 -- Where an address took none of them, there is another connection, to another of the host's. Behind the last byte nothing more is
@@ -39,3 +42,36 @@ abbrev pub Begins : {C : Type 0} → (C → Number) → List SocketAddr → Opti
 Begins number addresses (Some stream) old new =
     (mid : Calls) × Unreached addresses old mid × ((address : SocketAddr) × Contains addresses address × (new ≡ then (Connect address (Ok (number stream))) mid))
 Begins number addresses None old new = Unreached addresses old new
+
+-- one connection went on: its bytes and its host's addresses stay
+abbrev pub Went : {C : Type 0} → (C → Number) → Outgoing C → Calls → Outgoing C → Calls → Type 0
+Went number before old after new =
+    Leaves before.addresses.items before.bytes.items (number before.stream) before.done old (number after.stream) after.done new
+    × (after.bytes ≡ before.bytes) × (after.addresses ≡ before.addresses)
+
+-- the one at a place went on
+abbrev pub WentAt : {C : Type 0} → (C → Number) → ℕ → List (Outgoing C) → Calls → List (Outgoing C) → Calls → Type 0
+WentAt {C = C} number place befores old afters new =
+    (before : Outgoing C) × (after : Outgoing C) × (before ≡ slice_index_or befores place before) × Went number before old after new × (afters ≡ slice_set befores place after)
+
+-- each of them went on, one behind the other
+pub data Advances {C : Type 0} (number : C → Number) (old : Calls) : List (Outgoing C) → List (Outgoing C) → Calls → Type 0 where
+  none : {befores afters : List (Outgoing C)} {new : Calls} → befores ≡ [] → afters ≡ [] → new ≡ old → Advances number old befores afters new
+  next : {befores afters front went : List (Outgoing C)} {mid new : Calls} (before after : Outgoing C) → Advances number old front went mid → Went number before mid after new
+      → befores ≡ front ++ before ∷ [] → afters ≡ went ++ after ∷ [] → Advances number old befores afters new
+
+-- nothing more is to be done; and of these, those of which not all bytes were taken
+abbrev pub is_last : Stage → Bool
+is_last stages.Over = true
+is_last stages.Lost = true
+is_last stage = false
+
+abbrev pub is_loss : Stage → Bool
+is_loss stages.Lost = true
+is_loss stage = false
+
+abbrev pub is_over : {C : Type 0} → Outgoing C → Bool
+is_over outgoing = is_last outgoing.stage
+
+abbrev pub is_lost : {C : Type 0} → Outgoing C → Bool
+is_lost outgoing = is_loss outgoing.stage

@@ -1,6 +1,8 @@
 //! Connections with bytes that leave: posts, and answers that weren't wholly out.
 
-ghost use Rattle.std.specs.Prelude.{◌<◌, IfSome, length};
+ghost use Rattle.std.specs.Prelude.{◌≡◌, ◌<◌, List, IfSome, filter, length, not};
+ghost use Rattle.atx_sites.specs.Departures.{Advances, WentAt, is_over};
+ghost use Rattle.atx_sites.specs.declared.outgoing.Outgoing.{Outgoing};
 
 use crate::outgoing::{self, Outgoing};
 use crate::resolved_names::{self, ResolvedNames};
@@ -256,8 +258,34 @@ fn count_lost<C: Drop>(leaving: &[Outgoing<C>]) -> u64 {
 }
 
 /// Closes those with nothing left to do.
-fn close_over<C: Drop>(leaving: &mut Vec<Outgoing<C>>) {
+fn close_over<C: Drop>(leaving: &mut Vec<Outgoing<C>>)
+    ensures { leaving.new.items ≡ filter (λ o. not (is_over o)) leaving.old.items }
+{
     leaving.retain(|outgoing| !outgoing.is_over());
+}
+
+/// Lets one go on.
+fn go_at<S: System>(
+    system: &mut S,
+    leaving: &mut Vec<Outgoing<S::Stream>>,
+    place: usize,
+    now: Duration,
+)
+    requires { place < length leaving.old.items }
+    ensures { WentAt S.Stream.raw_fd place leaving.old.items (S.calls system.old) leaving.new.items (S.calls system.new) }
+{
+    let outgoing = &mut leaving[place];
+    outgoing::go(system, outgoing, now);
+}
+
+/// Lets each go on.
+#[tactic(auto, using(crate::proofs::DepartureLists::none_advance, crate::proofs::DepartureLists::all_advance))]
+fn go_each<S: System>(system: &mut S, leaving: &mut Vec<Outgoing<S::Stream>>, now: Duration)
+    ensures { Advances S.Stream.raw_fd (S.calls system.old) leaving.old.items leaving.new.items (S.calls system.new) }
+{
+    'places: for place in 0..leaving.len() {
+        go_at(system, leaving, place, now);
+    }
 }
 
 /// Lets each go on as far as it can without waiting, gives up those whose time is over, and closes those that are done.
@@ -265,10 +293,11 @@ pub(crate) fn advance<S: System>(
     system: &mut S,
     departures: &mut Departures<S::Stream>,
     now: Duration,
-) {
-    for i in 0..departures.leaving.len() {
-        outgoing::go(system, &mut departures.leaving[i], now);
-    }
+)
+    ensures { (went : List (Outgoing S.Stream)) × Advances S.Stream.raw_fd (S.calls system.old) departures.old.leaving.items went (S.calls system.new)
+        × (departures.new.leaving.items ≡ filter (λ o. not (is_over o)) went) }
+{
+    go_each(system, &mut departures.leaving, now);
     departures.lost = departures
         .lost
         .saturating_add(count_lost(&departures.leaving));

@@ -2,7 +2,7 @@
 
 ghost use Rattle.std.specs.Prelude.{◌≡◌, ◌≤◌, ℕ, List, true, length};
 ghost use Rattle.std.specs.declared.net.SocketAddr.{SocketAddr};
-ghost use Rattle.atx_sites.specs.Departures.{Begins, Goes};
+ghost use Rattle.atx_sites.specs.Departures.{Begins, Goes, is_lost, is_over};
 
 use std::alloc::Global;
 use std::io::ErrorKind;
@@ -120,11 +120,15 @@ impl<C: Drop> Outgoing<C> {
     }
 
     /// Whether nothing more is to be done, and the connection can be closed.
-    pub(crate) fn is_over(&self) -> bool {
+    pub(crate) fn is_over(&self) -> bool
+        ensures { result ≡ is_over self.now }
+    {
         matches!(self.stage, Stage::Over | Stage::Lost)
     }
 
-    pub(crate) fn is_lost(&self) -> bool {
+    pub(crate) fn is_lost(&self) -> bool
+        ensures { result ≡ is_lost self.now }
+    {
         matches!(self.stage, Stage::Lost)
     }
 
