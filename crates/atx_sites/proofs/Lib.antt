@@ -1,3 +1,4 @@
+pub mod Afterwards
 pub mod Attachings
 pub mod Comings
 pub mod DepartureLists
