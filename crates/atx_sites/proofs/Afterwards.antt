@@ -30,4 +30,3 @@ pub advances_later : {C : Type 0} (number : C → Number) (old : Calls) (befores
 advances_later number old befores afters new (none_go a b e) = none e
 advances_later number old befores afters new (next {mid = mid} before after h w a b) =
     later_still old mid new (advances_later number old _ _ mid h) (leaves_later _ _ _ _ mid _ _ new w.0)
-

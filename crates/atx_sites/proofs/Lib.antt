@@ -7,3 +7,4 @@ pub mod Leavings
 pub mod Receipts
 pub mod Sendings
 pub mod SilentMachines
+pub mod Turns
