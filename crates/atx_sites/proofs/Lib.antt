@@ -1,3 +1,4 @@
+pub mod Afterwards
 pub mod Attachings
 pub mod Comings
 pub mod DepartureLists
@@ -7,3 +8,4 @@ pub mod Pushes
 pub mod Receipts
 pub mod Sendings
 pub mod SilentMachines
+pub mod Turns

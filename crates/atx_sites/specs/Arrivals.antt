@@ -1,8 +1,9 @@
 -- What is known of connections that are read aside.
 use Rattle.std.specs.Prelude.{ℕ, List, Bool, Option, Some, None, Result, Ok, Err, All, [], ◌++◌, ◌≡◌, ◌+◌, ◌⊎◌, true, false, length, take, drop, is_err}
 use Rattle.system_calls.specs.Calls.{Calls, Number}
-use Rattle.atx_sites.specs.LinkCalls.{Came, Sending}
+use Rattle.atx_sites.specs.LinkCalls.{Came, Sending, number_at}
 use Rattle.atx_sites.specs.declared.arriving.Arriving.{Arriving}
+use Rattle.atx_sites.specs.declared.connection.Connection.{Connection}
 use Rattle.atx_sites.specs.declared.connection.Served.{Served}
 
 -- it came, and its bytes are those that its reads gave
@@ -56,3 +57,9 @@ abbrev pub KeepsOn : {C E : Type 0} → (C → Number) → List ℕ → Result (
 KeepsOn number bytes result (Some old) (Some new) before now = KeptOn old.is_cut number bytes result old new before now
 KeepsOn number bytes result (Some old) None before now = ⊥
 KeepsOn number bytes result None new before now = (new ≡ None) × (now ≡ before)
+
+-- of all that wait and of the one that is served
+abbrev pub ConnectionCame : {L C : Type 0} → (C → Number) → (L → Number) → Calls → Connection L C → Type 0
+ConnectionCame number listens calls connection =
+    HaveCome number (number_at listens connection.listener) calls connection.waiting.arriving.items
+    × ServedCame number (number_at listens connection.listener) calls connection.served

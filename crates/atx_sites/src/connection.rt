@@ -1,15 +1,16 @@
 //! The listener of a node, the connections that are read aside, and the one that is served.
 
-ghost use Rattle.std.specs.Prelude.{◌≡◌, ◌≤◌, ◌<◌, ◌+◌, ◌++◌, ◌^◌, None, IsErr, OnErr, OnOk, drop, length, take};
+ghost use Rattle.std.specs.Prelude.{◌≡◌, ◌≤◌, ◌<◌, ◌+◌, ◌++◌, ◌^◌, None, IfOk, IsErr, OnErr, OnOk, drop, length, take};
 ghost use Rattle.std.specs.Io.{ReadsAtMost, WritesAtMost};
 ghost use Rattle.system_calls.specs.Calls.{Number};
-ghost use Rattle.atx_sites.specs.Arrivals.{Gives, Keeps, KeepsOn, ServedCame};
+ghost use Rattle.atx_sites.specs.Arrivals.{ConnectionCame, Gives, HasCome, HaveCome, Keeps, KeepsOn, ServedCame};
 ghost use Rattle.atx_sites.specs.LinkCalls.{IfListens, Later, Sends, number_at};
 
 use crate::arriving::{Arriving, Rest, read_on};
 use crate::deadlines::{earlier, millis_until};
 use crate::departures::{self, Departures};
 use crate::waiting::{Waiting, accept_all, read_found};
+use libc::types::pollfd;
 use std::alloc::{AllocError, Global};
 use std::io::{self, ErrorKind};
 use std::os::fd::AsRawFd;
@@ -54,52 +55,125 @@ pub(crate) fn listen<S: System>(
     connection: &mut Connection<S::Listener, S::Stream>,
     address: &str,
 ) -> io::Result<()>
-    ensures { IfListens address.now result (number_at S.Listener.raw_fd connection.new.listener) (S.calls system.old) (S.calls system.new) }
+    ensures calls { IfListens address.now result (number_at S.Listener.raw_fd connection.new.listener) (S.calls system.old) (S.calls system.new) }
+    ensures came { ConnectionCame S.Stream.raw_fd S.Listener.raw_fd (S.calls system.new) connection.new }
 {
     connection.listener = None;
     connection.served = None;
-    connection.waiting.begin()?;
-    connection.listener = Some(system.listen(address)?);
+    let Ok(()) = connection.waiting.begin() else {
+        return Err(ErrorKind::OutOfMemory.into());
+    };
+    match system.listen(address) {
+        Ok(listener) => {
+            connection.listener = Some(listener);
+            Ok(())
+        }
+        Err(fault) => Err(fault),
+    }
+}
+
+/// What the system is to wait for: first of the listener, then of those that are read aside, and then of what leaves. Says
+/// how many are behind the listener and before what leaves.
+fn asked_of<L: AsRawFd, C: AsRawFd + Drop>(
+    listener: &L,
+    waiting: &Waiting<C>,
+    departures: &Departures<C>,
+    asks: &mut Vec<pollfd>,
+) -> Result<usize, AllocError> {
+    waiting.asks(listener.as_raw_fd(), asks)?;
+    let arriving = asks.len();
+    departures.asks(asks)?;
+    Ok(arriving)
+}
+
+/// Does what poll found: connections are accepted and read aside.
+#[tactic(auto, using(crate::proofs::Comings::later_still))]
+fn go_on<S: System>(
+    system: &mut S,
+    waiting: &mut Waiting<S::Stream>,
+    listener: &S::Listener,
+    found: &[pollfd],
+    now: Duration,
+) -> io::Result<()>
+    ensures came { HaveCome S.Stream.raw_fd (S.Listener.raw_fd listener.now) (S.calls system.old) waiting.old.arriving.items → HaveCome S.Stream.raw_fd (S.Listener.raw_fd listener.now) (S.calls system.new) waiting.new.arriving.items }
+    ensures later { Later (S.calls system.old) (S.calls system.new) }
+{
+    let Some((first, others)) = found.split_first() else {
+        return Ok(());
+    };
+    read_found(system, waiting, others);
+    if first.revents != 0 || waiting.may_go_on(now) {
+        return accept_all(system, waiting, listener, now);
+    }
     Ok(())
 }
 
-/// Waits until something can be done, or a time is over, and does it: connections are accepted and read aside.
-fn go_on<S: System>(
+/// Waits until something can be done, or a time is over, and does it.
+#[tactic(auto, using(crate::proofs::Comings::as_late, crate::proofs::Comings::late_by, crate::proofs::Comings::later_still, crate::proofs::Comings::have_still))]
+fn wait_once<S: System>(
     system: &mut S,
     waiting: &mut Waiting<S::Stream>,
     departures: &Departures<S::Stream>,
     listener: &S::Listener,
     now: Duration,
-) -> io::Result<()> {
+) -> io::Result<()>
+    ensures came { HaveCome S.Stream.raw_fd (S.Listener.raw_fd listener.now) (S.calls system.old) waiting.old.arriving.items → HaveCome S.Stream.raw_fd (S.Listener.raw_fd listener.now) (S.calls system.new) waiting.new.arriving.items }
+    ensures later { Later (S.calls system.old) (S.calls system.new) }
+{
     let mut asks = Vec::new(waiting.alloc());
-    waiting.asks(listener.as_raw_fd(), &mut asks)?;
-    let arriving = asks.len();
-    departures.asks(&mut asks)?;
+    let Ok(arriving) = asked_of(listener, waiting, departures, &mut asks) else {
+        return Err(ErrorKind::OutOfMemory.into());
+    };
     let until = earlier(waiting.earliest(), departures.earliest());
     system.poll(asks.as_mut_slice(), millis_until(now, until));
-    let later = system.monotonic()?;
-    let found = asks.as_slice();
-    read_found(system, waiting, &found[1..arriving]);
-    if found[0].revents != 0 || waiting.is_paused(later) {
-        accept_all(system, waiting, listener, later)?;
+    match system.monotonic() {
+        Ok(later) => {
+            let found = &asks[..arriving.min(asks.len())];
+            go_on(system, waiting, listener, found, later)
+        }
+        Err(fault) => Err(fault),
     }
-    Ok(())
+}
+
+/// The time. What leaves goes on by it.
+fn advance<S: System>(
+    system: &mut S,
+    departures: &mut Departures<S::Stream>,
+) -> io::Result<Duration>
+    ensures later { Later (S.calls system.old) (S.calls system.new) }
+{
+    match system.monotonic() {
+        Ok(now) => {
+            departures::advance(system, departures, now);
+            Ok(now)
+        }
+        Err(fault) => Err(fault),
+    }
 }
 
 /// Waits for a connection whose turn may come. Meanwhile what leaves goes on.
+#[tactic(auto, using(crate::proofs::Comings::as_late, crate::proofs::Comings::later_still, crate::proofs::Comings::have_still))]
 fn wait<S: System>(
     system: &mut S,
     waiting: &mut Waiting<S::Stream>,
     departures: &mut Departures<S::Stream>,
     listener: &S::Listener,
-) -> io::Result<Arriving<S::Stream>> {
-    for _ in 0..u64::MAX {
-        let now = system.monotonic()?;
-        departures::advance(system, departures, now);
+) -> io::Result<Arriving<S::Stream>>
+    ensures came { HaveCome S.Stream.raw_fd (S.Listener.raw_fd listener.now) (S.calls system.old) waiting.old.arriving.items → HaveCome S.Stream.raw_fd (S.Listener.raw_fd listener.now) (S.calls system.new) waiting.new.arriving.items }
+    ensures later { Later (S.calls system.old) (S.calls system.new) }
+    ensures taken { HaveCome S.Stream.raw_fd (S.Listener.raw_fd listener.now) (S.calls system.old) waiting.old.arriving.items → IfOk result (HasCome S.Stream.raw_fd (S.Listener.raw_fd listener.now) (S.calls system.new)) }
+{
+    'waits: for _ in 0..u64::MAX {
+        let now = match advance(system, departures) {
+            Ok(now) => now,
+            Err(fault) => return Err(fault),
+        };
         if let Some(ready) = waiting.ready(now) {
             return Ok(ready);
         }
-        go_on(system, waiting, departures, listener, now)?;
+        if let Err(fault) = wait_once(system, waiting, departures, listener, now) {
+            return Err(fault);
+        }
     }
     Err(ErrorKind::TimedOut.into())
 }
@@ -112,19 +186,24 @@ pub(crate) fn take<S: System>(
     departures: &mut Departures<S::Stream>,
 ) -> io::Result<()>
     ensures shut { connection.old.listener ≡ None → IsErr result }
+    ensures came { ConnectionCame S.Stream.raw_fd S.Listener.raw_fd (S.calls system.old) connection.old → ConnectionCame S.Stream.raw_fd S.Listener.raw_fd (S.calls system.new) connection.new }
 {
     close(system, connection, departures);
     let Some(listener) = &connection.listener else {
         return Err(ErrorKind::NotConnected.into());
     };
-    let arriving = wait(system, &mut connection.waiting, departures, listener)?;
-    connection.served = Some(Served {
-        arriving,
-        given: 0,
-        unsent: Vec::new(connection.alloc),
-        is_cut: false,
-    });
-    Ok(())
+    match wait(system, &mut connection.waiting, departures, listener) {
+        Ok(arriving) => {
+            connection.served = Some(Served {
+                arriving,
+                given: 0,
+                unsent: Vec::new(connection.alloc),
+                is_cut: false,
+            });
+            Ok(())
+        }
+        Err(fault) => Err(fault),
+    }
 }
 
 /// Gives bytes from a place on, as many as the buffer takes, and says how many.
@@ -242,6 +321,19 @@ pub(crate) fn send<S: System>(
     sent
 }
 
+/// Hands over a connection, whose answer goes out behind this call.
+fn end<S: System>(system: &mut S, departures: &mut Departures<S::Stream>, served: Served<S::Stream>)
+    ensures later { Later (S.calls system.old) (S.calls system.new) }
+{
+    let Served {
+        arriving,
+        unsent,
+        ..
+    } = served;
+    let Arriving { stream, .. } = arriving;
+    departures::answer(system, departures, stream, unsent, 0);
+}
+
 /// Closes the connection that is open, if one is: what is left of the answer goes out behind this call.
 pub(crate) fn close<S: System>(
     system: &mut S,
@@ -249,16 +341,11 @@ pub(crate) fn close<S: System>(
     departures: &mut Departures<S::Stream>,
 )
     ensures shut { connection.new.served ≡ None }
-    ensures same { connection.new.listener ≡ connection.old.listener }
+    ensures same { (connection.new.listener ≡ connection.old.listener) × (connection.new.waiting ≡ connection.old.waiting) }
+    ensures later { Later (S.calls system.old) (S.calls system.new) }
 {
     if let Some(served) = connection.served.take() {
-        let Served {
-            arriving,
-            unsent,
-            ..
-        } = served;
-        let Arriving { stream, .. } = arriving;
-        departures::answer(system, departures, stream, unsent, 0);
+        end(system, departures, served);
     }
 }
 

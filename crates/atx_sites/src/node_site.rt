@@ -6,6 +6,7 @@ ghost use Rattle.site_model.specs.Counts.{capped};
 ghost use Rattle.site_model.specs.Told.{Files as Files_told, Is, file_of};
 ghost use Rattle.site_model.specs.Told.Call.{Post, Send};
 ghost use Rattle.site_model.specs.declared.site.Taken.TheVariants.{Opened};
+ghost use Rattle.atx_sites.specs.Arrivals.{Gives, KeepsOn};
 ghost use Rattle.atx_sites.specs.Disks.{Tallied, file_at, other_at};
 ghost use Rattle.atx_sites.specs.FileCalls.{Raises, Reads, Sized, Syncs, Writes};
 ghost use Rattle.atx_sites.specs.Files.{is_lost, number_of};
@@ -66,12 +67,16 @@ impl<S: System + Drop> NodeSite<S> {
     }
 
     /// How many posts were lost behind their calls: the peer didn't accept a connection, or didn't take all bytes in time.
-    pub fn lost(&self) -> u64 {
+    pub fn lost(&self) -> u64
+        ensures { result ≡ self.now.departures.lost }
+    {
         self.departures.lost
     }
 
     /// Lets go out what still leaves, each until its own time is over.
-    pub fn leave(&mut self) {
+    pub fn leave(&mut self)
+        ensures { self.new.connection.served ≡ None }
+    {
         connection::close(&mut self.system, &mut self.connection, &mut self.departures);
         let _ = connection::leave(&mut self.system, self.alloc, &mut self.departures);
     }
@@ -181,6 +186,7 @@ impl<S: System + Drop> Site for NodeSite<S> {
         ensures shut { self.old.connection.served ≡ None → IsErr result }
         ensures tallied { Tallied self.old.receive self.new.receive result }
         ensures same_length { length buf.new ≡ length buf.old }
+        ensures gives { Gives buf.new result self.old.connection.served self.new.connection.served }
         ensures call { Received result buf.new (told_with self.old.disk self.old.accept self.old.receive self.old.link self.old.taken self.old.attached.names) (told_with self.new.disk self.new.accept self.new.receive self.new.link self.new.taken self.new.attached.names) }
     {
         counted(
@@ -193,6 +199,7 @@ impl<S: System + Drop> Site for NodeSite<S> {
     fn send(&mut self, bytes: &[u8]) -> Result<(), Failed>
         ensures shut { self.old.connection.served ≡ None → IsErr result }
         ensures tallied { Tallied self.old.link self.new.link result }
+        ensures kept { KeepsOn S.Stream.raw_fd bytes.now result self.old.connection.served self.new.connection.served (S.calls self.old.system) (S.calls self.new.system) }
         ensures call { Gave (Send bytes.now) result (told_with self.old.disk self.old.accept self.old.receive self.old.link self.old.taken self.old.attached.names) (told_with self.new.disk self.new.accept self.new.receive self.new.link self.new.taken self.new.attached.names) }
     {
         counted(

@@ -1,6 +1,6 @@
 //! Connections that are read aside, each until its turn.
 
-ghost use Rattle.std.specs.Prelude.{◌<◌, [], IfSome, length};
+ghost use Rattle.std.specs.Prelude.{◌<◌, [], ◌≡◌, IfSome, length};
 ghost use Rattle.system_calls.specs.Calls.{Calls, Number};
 ghost use Rattle.atx_sites.specs.Arrivals.{HasCome, HaveCome, IfCame};
 ghost use Rattle.atx_sites.specs.LinkCalls.{Came, Later};
@@ -73,7 +73,9 @@ impl<C: AsRawFd + Drop> Waiting<C> {
     }
 
     /// Closes all of them, and makes room for the fields of a head.
-    pub(crate) fn begin(&mut self) -> Result<(), AllocError> {
+    pub(crate) fn begin(&mut self) -> Result<(), AllocError>
+        ensures { self.new.arriving.items ≡ [] }
+    {
         self.arriving.clear();
         self.pause = None;
         self.places.resize(FIELDS, EMPTY_HEADER_SPAN)
@@ -84,7 +86,7 @@ impl<C: AsRawFd + Drop> Waiting<C> {
     }
 
     /// Whether accepting pauses, and may go on.
-    pub(crate) fn is_paused(&self, now: Duration) -> bool {
+    pub(crate) fn may_go_on(&self, now: Duration) -> bool {
         match self.pause {
             Some(until) => now >= until,
             None => false,
