@@ -1,8 +1,9 @@
 -- The calls of connections that leave are calls later.
-use Rattle.std.proofs.Common.{ℕ, List, ◌≡◌, ◌∙◌, refl, sym, subst}
+use Rattle.std.proofs.Common.{ℕ, List, Vec, ◌≡◌, ◌∙◌, inl, inr, refl, sym, subst}
+use Rattle.std.specs.declared.alloc.Global.{Global}
 use Rattle.std.specs.declared.net.SocketAddr.{SocketAddr}
 use Rattle.system_calls.specs.Calls.{Calls, Number, then}
-use Rattle.atx_sites.specs.Departures.{Advances, Goes, Leaves, Went}
+use Rattle.atx_sites.specs.Departures.{Advances, Answers, Goes, Leaves, Went}
 use Rattle.atx_sites.specs.Departures.Advances.{none as none_go, next}
 use Rattle.atx_sites.specs.Departures.Leaves.{none as no_call, took, failed, connects, unreached, shuts, reads}
 use Rattle.atx_sites.specs.LinkCalls.{Later}
@@ -30,3 +31,9 @@ pub advances_later : {C : Type 0} (number : C → Number) (old : Calls) (befores
 advances_later number old befores afters new (none_go a b e) = none e
 advances_later number old befores afters new (next {mid = mid} before after h w a b) =
     later_still old mid new (advances_later number old _ _ mid h) (leaves_later _ _ _ _ mid _ _ new w.0)
+
+pub answers_later : {C : Type 0} (number : C → Number) (stream : C) (bytes : Vec ℕ Global) (sent : ℕ) (before : List (Outgoing C)) (old : Calls) (after : List (Outgoing C)) (new : Calls)
+    → Answers number stream bytes sent before old after new → Later old new
+answers_later number stream bytes sent before old after new (others, part, mid, (got, e), inl (a, b)) = more _ (none refl) (b ∙ e)
+answers_later number stream bytes sent before old after new (others, part, mid, (got, e), inr (begun, result, s, b, d, (went, w, joins))) =
+    later_still old mid new (more _ (none refl) e) (leaves_later _ _ _ _ mid _ _ new w.0)

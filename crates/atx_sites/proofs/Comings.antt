@@ -5,7 +5,7 @@ use lib.ListN.{set}
 use Rattle.std.proofs.lemmas.List.Elements.{All-append, All-drop, All-nil, All-push, All-set, All-take, All-weaker}
 use Rattle.std.specs.declared.io.Error.{Error}
 use Rattle.std.specs.declared.net.SocketAddr.{SocketAddr}
-use Rattle.system_calls.specs.Calls.{Call, Calls, Number, Answer, given, then}
+use Rattle.system_calls.specs.Calls.{Call, Calls, Number, Answer, answer, came, given, then}
 use Rattle.system_calls.specs.Calls.Call.{Accept, Read}
 use Rattle.atx_sites.specs.Arrivals.{Grows, HasCome, HaveCome}
 use Rattle.atx_sites.specs.LinkCalls.{Came, Later}
@@ -68,6 +68,10 @@ module _ {C : Type 0} (number : C → Number) (listener : Number) where
 -- a connection that was accepted
 pub came_first : (listener stream : Number) (address : SocketAddr) (mid new : Calls) → new ≡ then (Accept listener (Ok (stream, address))) mid → Came listener stream [] new
 came_first listener stream address mid new e = accepted mid address refl e
+
+pub came_accepted : {C : Type 0} (number : C → Number) (listener : Number) (mid new : Calls) (got : Answer (C × SocketAddr)) (stream : C) (address : SocketAddr)
+    → new ≡ then (Accept listener (answer (came number) got)) mid → got ≡ Ok (stream, address) → Came listener (number stream) [] new
+came_accepted number listener mid new got stream address e r = accepted mid address refl (e ∙ ap (λ a. then (Accept listener (answer (came number) a)) mid) r)
 
 pub no_more : (bytes : List ℕ) → Grows bytes bytes
 no_more bytes = ([], sym (append-nil bytes))

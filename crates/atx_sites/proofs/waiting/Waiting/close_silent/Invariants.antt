@@ -4,4 +4,4 @@ use Rattle.atx_sites.proofs.waiting.Waiting.close_silent.Given as goal
 
 abbrev pub invariant-silent : goal.invariant-silent
 invariant-silent g l =
-    (number : g.C → Number) (listener : Number) (calls : Calls) → HaveCome number listener calls l.fn.self.arriving.items → HaveCome number listener calls l.self.arriving.items
+    (number : g.row.C.Denot → Number) (listener : Number) (calls : Calls) → HaveCome number listener calls l.fn.self.arriving.items → HaveCome number listener calls l.self.arriving.items
