@@ -76,8 +76,8 @@ came_accepted number listener mid new got stream address e r = accepted mid addr
 pub no_more : (bytes : List ℕ) → Grows bytes bytes
 no_more bytes = ([], sym (append-nil bytes))
 
-pub grown : (old new more : List ℕ) → new ≡ old ++ more → Grows old new
-grown old new more e = (more, e)
+pub grown : (old new added : List ℕ) → new ≡ old ++ added → Grows old new
+grown old new added e = (added, e)
 
 pub grown_more : (old mid new : List ℕ) → Grows old mid → Grows mid new → Grows old new
 grown_more old mid new (one, e) (two, f) = (one ++ two, f ∙ ap (λ l. l ++ two) e ∙ append_assoc old one two)
