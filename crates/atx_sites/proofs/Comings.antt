@@ -1,5 +1,5 @@
 -- Connections that came, and what was read of them.
-use Rattle.std.proofs.Common.{append_assoc, append-nil, ℕ, List, Ok, Err, [], ◌∷◌, suc, ◌≡◌, ◌<◌, ◌++◌, ◌∙◌, refl, sym, ap, subst, take, drop, length, slice_index_or}
+use Rattle.std.proofs.Common.{append_assoc, append-nil, ℕ, List, Option, None, Some, Ok, Err, [], ◌∷◌, suc, ◌≡◌, ◌<◌, ◌++◌, ◌∙◌, refl, sym, ap, subst, take, drop, length, slice_index_or}
 use Rattle.std.specs.List.{remove}
 use lib.ListN.{set}
 use Rattle.std.proofs.lemmas.List.Elements.{All-append, All-drop, All-nil, All-push, All-set, All-take, All-weaker}
@@ -7,11 +7,14 @@ use Rattle.std.specs.declared.io.Error.{Error}
 use Rattle.std.specs.declared.net.SocketAddr.{SocketAddr}
 use Rattle.system_calls.specs.Calls.{Call, Calls, Number, Answer, answer, came, given, then}
 use Rattle.system_calls.specs.Calls.Call.{Accept, Read}
-use Rattle.atx_sites.specs.Arrivals.{Grows, HasCome, HaveCome}
-use Rattle.atx_sites.specs.LinkCalls.{Came, Later}
+use Rattle.atx_sites.specs.Arrivals.{ConnectionCame, Grows, HasCome, HaveCome, ServedCame}
+use Rattle.atx_sites.specs.LinkCalls.{Came, Later, number_at}
 use Rattle.atx_sites.specs.LinkCalls.Later.{none, more}
 use Rattle.atx_sites.specs.LinkCalls.Came.{accepted, read, beside}
 use Rattle.atx_sites.specs.declared.arriving.Arriving.{Arriving}
+use Rattle.atx_sites.specs.declared.connection.Connection.{Connection}
+use Rattle.atx_sites.specs.declared.connection.Served.{Served}
+use Rattle.atx_sites.specs.declared.waiting.Waiting.{Waiting}
 
 pub as_late : (old : Calls) → Later old old
 as_late old = none refl
@@ -64,6 +67,36 @@ module _ {C : Type 0} (number : C → Number) (listener : Number) where
   pub have_set : (calls : Calls) (items : List (Arriving C)) (i : ℕ) (a : Arriving C) → HaveCome number listener calls items → HasCome number listener calls a
       → HaveCome number listener calls (set items i a)
   have_set calls items i a h c = All-set (HasCome number listener calls) items i a c h
+
+module _ {L C : Type 0} (number : C → Number) (listens : L → Number) where
+  pub came_none : (calls : Calls) (listener : Number) (served : Option (Served C)) → served ≡ None → ServedCame number listener calls served
+  came_none calls listener served shut = subst (ServedCame number listener calls) (sym shut) tt
+
+  -- the one that was served is closed, and the others wait as before
+  pub came_closed : (old new : Calls) (before after : Connection L C) → after.served ≡ None → (after.listener ≡ before.listener) × (after.waiting ≡ before.waiting) → Later old new
+      → ConnectionCame number listens old before → ConnectionCame number listens new after
+  came_closed old new before after shut same l h = (
+    subst (λ (w : Waiting C). HaveCome number (number_at listens after.listener) new w.arriving.items) (sym same.1)
+        (subst (λ k. HaveCome number (number_at listens k) new before.waiting.arriving.items) (sym same.0)
+        (have_still number (number_at listens before.listener) old new before.waiting.arriving.items h.0 l)),
+    came_none new (number_at listens after.listener) after.served shut,
+  )
+
+  -- those that wait behind a wait
+  pub came_waited : (mid new : Calls) (closed : Connection L C) (waiting : Waiting C) (listener : L) → closed.listener ≡ Some listener
+      → (HaveCome number (listens listener) mid closed.waiting.arriving.items → HaveCome number (listens listener) new waiting.arriving.items)
+      → ConnectionCame number listens mid closed → HaveCome number (number_at listens closed.listener) new waiting.arriving.items
+  came_waited mid new closed waiting listener is came h =
+      subst (λ k. HaveCome number (number_at listens k) new waiting.arriving.items) (sym is)
+      (came (subst (λ k. HaveCome number (number_at listens k) mid closed.waiting.arriving.items) is h.0))
+
+  -- and the one whose turn comes
+  pub came_taken : (mid new : Calls) (closed : Connection L C) (taken : Arriving C) (listener : L) → closed.listener ≡ Some listener
+      → (HaveCome number (listens listener) mid closed.waiting.arriving.items → HasCome number (listens listener) new taken)
+      → ConnectionCame number listens mid closed → HasCome number (number_at listens closed.listener) new taken
+  came_taken mid new closed taken listener is came h =
+      subst (λ k. HasCome number (number_at listens k) new taken) (sym is)
+      (came (subst (λ k. HaveCome number (number_at listens k) mid closed.waiting.arriving.items) is h.0))
 
 -- a connection that was accepted
 pub came_first : (listener stream : Number) (address : SocketAddr) (mid new : Calls) → new ≡ then (Accept listener (Ok (stream, address))) mid → Came listener stream [] new

@@ -108,7 +108,7 @@ fn go_on<S: System>(
     Ok(())
 }
 
-/// Waits until something can be done, or a time is over, and does it.
+/// Waits until something can be done, or a time is over, and does it. Where the turn of one may come, nothing is waited for.
 #[tactic(auto, using(crate::proofs::Comings::as_late, crate::proofs::Comings::late_by, crate::proofs::Comings::later_still, crate::proofs::Comings::have_still))]
 fn wait_once<S: System>(
     system: &mut S,
@@ -116,6 +116,7 @@ fn wait_once<S: System>(
     departures: &Departures<S::Stream>,
     listener: &S::Listener,
     now: Duration,
+    until: Option<Duration>,
 ) -> io::Result<()>
     ensures came { HaveCome S.Stream.raw_fd (S.Listener.raw_fd listener.now) (S.calls system.old) waiting.old.arriving.items → HaveCome S.Stream.raw_fd (S.Listener.raw_fd listener.now) (S.calls system.new) waiting.new.arriving.items }
     ensures later { Later (S.calls system.old) (S.calls system.new) }
@@ -124,7 +125,11 @@ fn wait_once<S: System>(
     let Ok(arriving) = asked_of(listener, waiting, departures, &mut asks) else {
         return Err(ErrorKind::OutOfMemory.into());
     };
-    let until = earlier(waiting.earliest(), departures.earliest());
+    let until = if waiting.has_ready(now) {
+        Some(now)
+    } else {
+        earlier(until, earlier(waiting.earliest(), departures.earliest()))
+    };
     system.poll(asks.as_mut_slice(), millis_until(now, until));
     match system.monotonic() {
         Ok(later) => {
@@ -151,39 +156,61 @@ fn advance<S: System>(
     }
 }
 
-/// Waits for a connection whose turn may come. Meanwhile what leaves goes on.
+/// When a wait is over that began now, unless it began before.
+fn begun(until: Option<Duration>, every: Option<Duration>, now: Duration) -> Option<Duration> {
+    match (until, every) {
+        (None, Some(every)) => Some(now.saturating_add(every)),
+        (until, _) => until,
+    }
+}
+
+fn is_over(until: Option<Duration>, now: Duration) -> bool {
+    match until {
+        Some(until) => now >= until,
+        None => false,
+    }
+}
+
+/// Waits for a connection whose turn may come, for so long where a time is given. Meanwhile what leaves goes on.
 #[tactic(auto, using(crate::proofs::Comings::as_late, crate::proofs::Comings::later_still, crate::proofs::Comings::have_still))]
 fn wait<S: System>(
     system: &mut S,
     waiting: &mut Waiting<S::Stream>,
     departures: &mut Departures<S::Stream>,
     listener: &S::Listener,
+    every: Option<Duration>,
 ) -> io::Result<Arriving<S::Stream>>
     ensures came { HaveCome S.Stream.raw_fd (S.Listener.raw_fd listener.now) (S.calls system.old) waiting.old.arriving.items → HaveCome S.Stream.raw_fd (S.Listener.raw_fd listener.now) (S.calls system.new) waiting.new.arriving.items }
     ensures later { Later (S.calls system.old) (S.calls system.new) }
     ensures taken { HaveCome S.Stream.raw_fd (S.Listener.raw_fd listener.now) (S.calls system.old) waiting.old.arriving.items → IfOk result (HasCome S.Stream.raw_fd (S.Listener.raw_fd listener.now) (S.calls system.new)) }
 {
+    let mut until = None;
     'waits: for _ in 0..u64::MAX {
         let now = match advance(system, departures) {
             Ok(now) => now,
             Err(fault) => return Err(fault),
         };
+        until = begun(until, every, now);
+        if let Err(fault) = wait_once(system, waiting, departures, listener, now, until) {
+            return Err(fault);
+        }
         if let Some(ready) = waiting.ready(now) {
             return Ok(ready);
         }
-        if let Err(fault) = wait_once(system, waiting, departures, listener, now) {
-            return Err(fault);
+        if is_over(until, now) {
+            return Err(ErrorKind::TimedOut.into());
         }
     }
     Err(ErrorKind::TimedOut.into())
 }
 
 /// Waits for a connection whose turn may come: its whole request is there, it ended or failed, or its time is over. One that
-/// is still open is closed.
+/// is still open is closed. Where none comes for as long as `every` says, none is open behind it.
 pub(crate) fn take<S: System>(
     system: &mut S,
     connection: &mut Connection<S::Listener, S::Stream>,
     departures: &mut Departures<S::Stream>,
+    every: Option<Duration>,
 ) -> io::Result<()>
     ensures shut { connection.old.listener ≡ None → IsErr result }
     ensures came { ConnectionCame S.Stream.raw_fd S.Listener.raw_fd (S.calls system.old) connection.old → ConnectionCame S.Stream.raw_fd S.Listener.raw_fd (S.calls system.new) connection.new }
@@ -192,7 +219,7 @@ pub(crate) fn take<S: System>(
     let Some(listener) = &connection.listener else {
         return Err(ErrorKind::NotConnected.into());
     };
-    match wait(system, &mut connection.waiting, departures, listener) {
+    match wait(system, &mut connection.waiting, departures, listener, every) {
         Ok(arriving) => {
             connection.served = Some(Served {
                 arriving,
@@ -202,6 +229,7 @@ pub(crate) fn take<S: System>(
             });
             Ok(())
         }
+        Err(fault) if every.is_some() && fault.kind() == ErrorKind::TimedOut => Ok(()),
         Err(fault) => Err(fault),
     }
 }

@@ -21,6 +21,7 @@ use site_model::attachments::{Attachments, Given};
 use site_model::site::{AttachFailed, Site, Taken};
 use site_model::source::Failed;
 use std::alloc::Global;
+use std::time::Duration;
 use system_calls::system::System;
 
 /// The machine of a node that serves.
@@ -37,6 +38,7 @@ pub struct NodeSite<S: System + Drop> {
     disk: Disk<S::File>,
     connection: Connection<S::Listener, S::Stream>,
     departures: Departures<S::Stream>,
+    every: Option<Duration>,
     accept: u64,
     receive: u64,
     link: u64,
@@ -58,6 +60,7 @@ impl<S: System + Drop> NodeSite<S> {
             disk: Disk::new(),
             connection: Connection::new(alloc),
             departures: Departures::new(alloc),
+            every: None,
             accept: 0,
             receive: 0,
             link: 0,
@@ -71,6 +74,11 @@ impl<S: System + Drop> NodeSite<S> {
         ensures { result ≡ self.now.departures.lost }
     {
         self.departures.lost
+    }
+
+    /// From now on a turn in which nothing comes begins by itself, where no connection's turn came for so many milliseconds.
+    pub fn keep_time(&mut self, millis: u64) {
+        self.every = Some(Duration::from_millis(millis));
     }
 
     /// Lets go out what still leaves, each until its own time is over.
@@ -172,7 +180,12 @@ impl<S: System + Drop> Site for NodeSite<S> {
         ensures tallied { Tallied self.old.accept self.new.accept result }
         ensures call { Takes result (told_with self.old.disk self.old.accept self.old.receive self.old.link self.old.taken self.old.attached.names) (told_with self.new.disk self.new.accept self.new.receive self.new.link self.new.taken self.new.attached.names) }
     {
-        let opened = connection::take(&mut self.system, &mut self.connection, &mut self.departures);
+        let opened = connection::take(
+            &mut self.system,
+            &mut self.connection,
+            &mut self.departures,
+            self.every,
+        );
         match counted(&mut self.accept, opened) {
             Ok(()) => {
                 self.taken = self.taken.saturating_add(1);

@@ -124,6 +124,11 @@ impl<C: AsRawFd + Drop> Waiting<C> {
         }
     }
 
+    /// Whether the turn of one may come.
+    pub(crate) fn has_ready(&self, now: Duration) -> bool {
+        place_of_ready(self.arriving.as_slice(), now).is_some()
+    }
+
     /// The first whose turn may come.
     #[tactic(auto, using(crate::proofs::Comings::have_removed, crate::proofs::Comings::has_taken))]
     pub(crate) fn ready(&mut self, now: Duration) -> Option<Arriving<C>>
