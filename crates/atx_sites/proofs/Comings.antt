@@ -39,6 +39,10 @@ came_read listener stream front bytes buf n mid new got c e r added =
 pub came_by : (listener stream : Number) (bytes : List ℕ) (mid new : Calls) (call : Call) → Came listener stream bytes mid → new ≡ then call mid → Came listener stream bytes new
 came_by listener stream bytes mid new call c e = beside call c e
 
+pub came_same : (listener stream : Number) (front bytes : List ℕ) (mid new : Calls) (call : Call) → Came listener stream front mid → new ≡ then call mid → bytes ≡ front
+    → Came listener stream bytes new
+came_same listener stream front bytes mid new call c e s = beside call (subst (λ l. Came listener stream l mid) (sym s) c) e
+
 module _ {C : Type 0} (number : C → Number) (listener : Number) where
   pub none_came : (calls : Calls) → HaveCome number listener calls []
   none_came calls = All-nil (HasCome number listener calls)

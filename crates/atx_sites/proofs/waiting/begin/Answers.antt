@@ -1,0 +1,6 @@
+use Rattle.atx_sites.proofs.Comings.{have_still}
+use Rattle.atx_sites.proofs.waiting.begin.Goals as goal
+
+pub returns-clause-came : goal.returns-clause-came
+returns-clause-came g c = λ listener first h.
+    c.keep.ensures _ listener _ (have_still _ listener _ _ _ h c.read_aside.ensures.later) (c.read_aside.ensures.came listener ?)
