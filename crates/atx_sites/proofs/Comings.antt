@@ -52,6 +52,9 @@ module _ {C : Type 0} (number : C → Number) (listener : Number) where
       All-weaker (HasCome number listener old) (HasCome number listener new)
       (λ a c. still_came listener (number a.stream) a.bytes.items old new c l) items h
 
+  pub have_as : (old new : Calls) (items others : List (Arriving C)) → HaveCome number listener old items → new ≡ old → others ≡ items → HaveCome number listener new others
+  have_as old new items others h e f = subst (HaveCome number listener new) (sym f) (subst (λ l. HaveCome number listener l items) (sym e) h)
+
   pub have_removed : (calls : Calls) (items : List (Arriving C)) (i : ℕ) → HaveCome number listener calls items → HaveCome number listener calls (remove items i)
   have_removed calls items i h =
       All-append (HasCome number listener calls) (take i items) (drop (suc i) items)
