@@ -1,5 +1,5 @@
 -- Connections that came, and what was read of them.
-use Rattle.std.proofs.Common.{append_assoc, append-nil, ℕ, List, Ok, Err, [], ◌∷◌, suc, ◌≡◌, ◌<◌, ◌++◌, ◌∙◌, refl, sym, ap, subst, take, drop, length, slice_index_or}
+use Rattle.std.proofs.Common.{append_assoc, append-nil, ℕ, List, Option, Some, Ok, Err, [], ◌∷◌, suc, ◌≡◌, ◌<◌, ◌++◌, ◌∙◌, refl, sym, ap, subst, take, drop, length, slice_index_or}
 use Rattle.std.specs.List.{remove}
 use lib.ListN.{set}
 use Rattle.std.proofs.lemmas.List.Elements.{All-append, All-drop, All-nil, All-push, All-set, All-take, All-weaker}
@@ -7,7 +7,7 @@ use Rattle.std.specs.declared.io.Error.{Error}
 use Rattle.std.specs.declared.net.SocketAddr.{SocketAddr}
 use Rattle.system_calls.specs.Calls.{Call, Calls, Number, Answer, answer, came, given, then}
 use Rattle.system_calls.specs.Calls.Call.{Accept, Read}
-use Rattle.atx_sites.specs.Arrivals.{Grows, HasCome, HaveCome}
+use Rattle.atx_sites.specs.Arrivals.{Grows, HasCome, HaveCome, IfCame}
 use Rattle.atx_sites.specs.LinkCalls.{Came, Later}
 use Rattle.atx_sites.specs.LinkCalls.Later.{none, more}
 use Rattle.atx_sites.specs.LinkCalls.Came.{accepted, read, beside}
@@ -88,3 +88,8 @@ grown old new added e = (added, e)
 
 pub grown_more : (old mid new : List ℕ) → Grows old mid → Grows mid new → Grows old new
 grown_more old mid new (one, e) (two, f) = (one ++ two, f ∙ ap (λ l. l ++ two) e ∙ append_assoc old one two)
+
+module _ {C : Type 0} (number : C → Number) where
+  pub came_if : (listener : Number) (calls : Calls) (got : Option C) (stream : C) → IfCame {C = C} {E = Error} number listener calls (Ok got) → got ≡ Some stream
+      → Came listener (number stream) [] calls
+  came_if listener calls got stream c e = subst (λ o. IfCame {C = C} {E = Error} number listener calls (Ok o)) e c
