@@ -1,5 +1,5 @@
 -- Connections that came, and what was read of them.
-use Rattle.std.proofs.Common.{append_assoc, append-nil, ℕ, List, Option, Some, Ok, Err, [], ◌∷◌, suc, ◌≡◌, ◌<◌, ◌++◌, ◌∙◌, refl, sym, ap, subst, take, drop, length, slice_index_or}
+use Rattle.std.proofs.Common.{append_assoc, append-nil, ℕ, List, Option, Some, Ok, [], ◌∷◌, suc, ◌≡◌, ◌<◌, ◌++◌, ◌∙◌, refl, sym, ap, subst, take, drop, length, slice_index_or}
 use Rattle.std.specs.List.{remove}
 use lib.ListN.{set}
 use Rattle.std.proofs.lemmas.List.Elements.{All-append, All-drop, All-nil, All-push, All-set, All-take, All-weaker}

@@ -10,7 +10,7 @@ returns-in_err-millis-clause-later g c = later_still _ _ _ c.reads.invariant.1 c
 pub reads-preserved : goal.reads-preserved
 reads-preserved g c =
     elim c.if-read_once-eq0.branch [
-      then-read_once-eq0+then-eq w ↦ (
+      | then-read_once-eq0+then-eq w ↦ (
         (λ listener h. came_by _ _ _ _ _ _ (c.read_once.ensures.came listener (still_came _ _ _ _ _ (c.reads.invariant.0 listener h) c.left.ensures)) (ap g.S.System.calls w.system-is ∙ w.poll.ensures)),
         later_by _ _ _ _ (later_still _ _ _ (later_still _ _ _ c.reads.invariant.1 c.left.ensures) c.read_once.ensures.later) (ap g.S.System.calls w.system-is ∙ w.poll.ensures),
         grown_more _ _ _ c.reads.invariant.2 c.read_once.ensures.grows,

@@ -10,8 +10,8 @@ found-preserved g c =
     let number = g.S.Stream.AsRawFd.raw_fd in
     let items = λ (v : Waiting g.row.S-Stream.Denot). v.arriving.items in
     elim c.if-ask-eq0.branch [
-      then-ask-eq0 w ↦ elim w.then-ask-eq0.branch [
-        then-ask-eq0-via-then-ask-eq0 w' ↦ (
+      | then-ask-eq0 w ↦ elim w.then-ask-eq0.branch [
+        | then-ask-eq0-via-then-ask-eq0 w' ↦ (
           (λ listener h. have_as number listener _ _ _ _ (c.found.invariant.0 listener h) (ap g.S.System.calls (w.system-is ∙ w'.system-is)) (ap items (w.waiting-is ∙ w'.waiting-is))),
           later_still _ _ _ c.found.invariant.1 (none (ap g.S.System.calls (w.system-is ∙ w'.system-is))),
         )
