@@ -93,3 +93,8 @@ module _ {C : Type 0} (number : C → Number) where
   pub came_if : (listener : Number) (calls : Calls) (got : Option C) (stream : C) → IfCame {C = C} {E = Error} number listener calls (Ok got) → got ≡ Some stream
       → Came listener (number stream) [] calls
   came_if listener calls got stream c e = subst (λ o. IfCame {C = C} {E = Error} number listener calls (Ok o)) e c
+
+module _ {C : Type 0} (number : C → Number) (listener : Number) where
+  pub came_new : (calls : Calls) (stream : C) (a : Arriving C) → Came listener (number stream) [] calls → a.stream ≡ stream → a.bytes.items ≡ [] → HasCome number listener calls a
+  came_new calls stream a c e f =
+      subst (λ (s : C). Came listener (number s) a.bytes.items calls) (sym e) (subst (λ (l : List ℕ). Came listener (number stream) l calls) (sym f) c)
