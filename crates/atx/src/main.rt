@@ -12,12 +12,15 @@ use std::env;
 use std::process::ExitCode;
 
 fn main(rt: HostRuntime) -> ExitCode {
-    with_words(
+    let mut site = NodeSite::new(rt.alloc(), RealSystem::new(&rt));
+    let status = with_words(
         rt.alloc(),
         env::args(&rt),
         &mut Reading::new(rt.stdin()),
         &mut Writing::new(rt.stdout()),
-        &mut NodeSite::new(RealSystem::new(&rt)),
+        &mut site,
         run,
-    )
+    );
+    site.leave();
+    status
 }
