@@ -33,8 +33,7 @@ impl Ledger {
 
     /// With one more.
     pub fn and(&self, _made: &Made<'_>) -> Ledger
-        ensures calls { result.calls ≡ calls_with _made.now self.now.asked self.now.calls }
-        ensures asked { result.asked ≡ asked_with _made.now self.now.asked }
+        ensures { (result.calls ≡ calls_with _made.now self.now.asked self.now.calls) × (result.asked ≡ asked_with _made.now self.now.asked) }
     {
         Ledger {}
     }

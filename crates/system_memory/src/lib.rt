@@ -3,6 +3,7 @@
 
 pub mod handle;
 pub mod ledger;
+pub mod lent;
 pub mod made;
 pub mod memory;
 pub mod peer;

@@ -8,6 +8,7 @@ use std::time::Duration;
 use system_calls::system::Stat;
 
 /// What is told of a call.
+#[derive(Clone, Copy)]
 pub enum Made<'a> {
     Open {
         name: &'a str,

@@ -1,5 +1,7 @@
 //! The other ends of connections.
 
+ghost use Rattle.std.specs.Io.{ReadsAtMost, WritesAtMost};
+
 use std::alloc::{AllocError, Global};
 use std::io;
 use std::net::SocketAddr;
@@ -195,7 +197,9 @@ impl Peer {
     }
 
     /// Gives at most so many bytes of what has come.
-    pub(crate) fn read(&mut self, now: Duration, buf: &mut [u8], most: usize) -> io::Result<usize> {
+    pub(crate) fn read(&mut self, now: Duration, buf: &mut [u8], most: usize) -> io::Result<usize>
+        ensures bound { ReadsAtMost result buf.new }
+    {
         self.failure(now)?;
         if most == 0 || !self.can_read(now) {
             return Err(errno(EAGAIN));
@@ -216,7 +220,9 @@ impl Peer {
     }
 
     /// Takes at most so many of these bytes.
-    pub(crate) fn write(&mut self, now: Duration, bytes: &[u8], most: usize) -> io::Result<usize> {
+    pub(crate) fn write(&mut self, now: Duration, bytes: &[u8], most: usize) -> io::Result<usize>
+        ensures bound { WritesAtMost result bytes.now }
+    {
         self.failure(now)?;
         if self.shut || self.has_failed(now) {
             return Err(errno(EPIPE));

@@ -55,6 +55,7 @@ pub struct World {
     alloc: Global,
     rules: Vec<Rule>,
     counts: [usize; NAMES],
+    calls: usize,
     notes: Vec<Note>,
     files: Vec<Stored>,
     opened: Vec<Opened>,
@@ -83,6 +84,7 @@ impl World {
             alloc,
             rules: Vec::new(alloc),
             counts: [0; NAMES],
+            calls: 0,
             notes: Vec::new(alloc),
             files: Vec::new(alloc),
             opened: Vec::new(alloc),
@@ -99,18 +101,6 @@ impl World {
     pub fn rule(&mut self, rule: Rule) -> Result<(), AllocError> {
         self.rules.push(rule)?;
         Ok(())
-    }
-
-    /// The n-th call of this name fails so.
-    pub fn fail(&mut self, name: Name, n: usize, code: i32) -> Result<(), AllocError> {
-        self.rule(
-            Rule {
-                name,
-                n,
-                every: 0,
-                act: Act::Fail(code),
-            },
-        )
     }
 
     /// One peer more.
@@ -180,23 +170,21 @@ impl World {
         self.over
     }
 
-    /// How many bytes a call moves at most, or how it fails.
-    fn most(&self, name: Name, n: usize) -> io::Result<usize> {
+    /// What the rules say of the latest call, which has this name.
+    fn act(&self, name: Name) -> Act {
+        let n = self.count(name);
         for rule in self.rules.iter() {
-            if rule.is_for(name, n) {
-                return match rule.act {
-                    Act::Fail(code) => Err(errno(code)),
-                    Act::AtMost(most) => Ok(most),
-                };
+            if rule.is_for(name, n, self.calls) {
+                return rule.act;
             }
         }
-        Ok(usize::MAX)
+        Act::AtMost(usize::MAX)
     }
 
     /// A call begins: how many bytes it moves at most, or how it fails.
-    fn begin(&mut self, name: Name, number: Option<i32>, at: i64, bytes: usize) -> io::Result<usize> {
-        let n = self.counts[name as usize].saturating_add(1);
-        self.counts[name as usize] = n;
+    fn begin(&mut self, name: Name, number: Option<i32>, at: u64, bytes: usize) -> io::Result<usize> {
+        self.counts[name as usize] = self.count(name).saturating_add(1);
+        self.calls = self.calls.saturating_add(1);
         if self.notes.len() >= MOST_CALLS {
             self.over = true;
         } else {
@@ -211,7 +199,14 @@ impl World {
                 },
             )?;
         }
-        self.most(name, n)
+        match self.act(name) {
+            Act::Fail(code) => Err(errno(code)),
+            Act::AtMost(most) => Ok(most),
+            Act::Lasts(millis) => {
+                self.clock = self.clock.saturating_add(Duration::from_millis(millis));
+                Ok(usize::MAX)
+            }
+        }
     }
 
     /// A call ends.
@@ -260,8 +255,9 @@ impl World {
         let place = match self.place_of(name) {
             Some(place) => place,
             None => {
+                let place = self.files.len();
                 self.file(name, &[], true)?;
-                self.files.len() - 1
+                place
             }
         };
         self.handle(place)
@@ -305,7 +301,7 @@ impl World {
     pub(crate) fn read_at(&mut self, file: i32, buf: &mut [u8], at: u64) -> io::Result<usize>
         ensures bound { ReadsAtMost result buf.new }
     {
-        let most = self.begin(Name::ReadAt, Some(file), at as i64, buf.len())?;
+        let most = self.begin(Name::ReadAt, Some(file), at, buf.len())?;
         let place = self.file_of(file)?;
         let Some(found) = self.files.get(place) else {
             return Err(errno(EINVAL));
@@ -320,7 +316,7 @@ impl World {
     pub(crate) fn write_at(&mut self, file: i32, bytes: &[u8], at: u64) -> io::Result<usize>
         ensures bound { WritesAtMost result bytes.now }
     {
-        let most = self.begin(Name::WriteAt, Some(file), at as i64, bytes.len())?;
+        let most = self.begin(Name::WriteAt, Some(file), at, bytes.len())?;
         let place = self.file_of(file)?;
         let n = bytes.len().min(most);
         if at > MOST_BYTES as u64 || n > MOST_BYTES {
@@ -375,7 +371,7 @@ impl World {
 
     /// A literal address is its own; a name has those that it was given, at this port.
     pub(crate) fn resolve(&mut self, host: &str, port: u16) -> io::Result<HostAddrs> {
-        self.begin(Name::Resolve, None, port as i64, 0)?;
+        self.begin(Name::Resolve, None, port as u64, 0)?;
         let mut found = [SocketAddr::from((Ipv4Addr::UNSPECIFIED, port)); 32];
         let mut n = 0usize;
         if let Ok(ip) = host.parse::<IpAddr>() {
@@ -406,7 +402,7 @@ impl World {
 
     /// Where no peer is found there, the connection is refused at once.
     pub(crate) fn connect(&mut self, address: &SocketAddr) -> io::Result<Handle> {
-        self.begin(Name::Connect, None, address.port() as i64, 0)?;
+        self.begin(Name::Connect, None, address.port() as u64, 0)?;
         if self.found_at(address).is_none() {
             let refused = Peer::found(self.alloc, *address, Begin::Refused(self.clock));
             self.peers.push(refused)?;
@@ -536,12 +532,15 @@ impl World {
     }
 
     pub(crate) fn poll(&mut self, asks: &mut [pollfd], millis: i32) -> i32 {
-        if self.begin(Name::Poll, None, millis as i64, asks.len()).is_err() {
+        let time = u64::try_from(millis).unwrap_or(u64::MAX);
+        if self.begin(Name::Poll, None, time, asks.len()).is_err() {
             return -1;
         }
-        let ends = match u64::try_from(millis) {
-            Ok(time) => Some(self.clock.saturating_add(Duration::from_millis(time))),
-            Err(_) => None,
+        self.end(&Ok(()));
+        let ends = if millis < 0 {
+            None
+        } else {
+            Some(self.clock.saturating_add(Duration::from_millis(time)))
         };
         for _ in 0..u16::MAX {
             let n = self.look(asks);

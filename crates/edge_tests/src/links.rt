@@ -1,0 +1,273 @@
+//! The connections and the posts of a machine: calls that fail, move little or would wait, and peers that are slow.
+
+use crate::posts::{ANSWER, POST, address, start, world};
+use atx_sites::node_site::NodeSite;
+use site_model::site::{Site, Taken};
+use std::alloc::{AllocError, Global};
+use std::test::Fail;
+use std::time::Duration;
+use system_memory::memory::MemorySystem;
+use system_memory::peer::{Begin, End, Peer};
+use system_memory::script::{Act, Name, Rule};
+use system_memory::world::World;
+
+/// Errors of calls by their numbers.
+const EINTR: i32 = 4;
+const EBADF: i32 = 9;
+const EAGAIN: i32 = 11;
+
+/// A whole request, in two parts.
+const FRONT: &[u8] = b"POST /a HTTP/1.1\r\nContent-";
+const BACK: &[u8] = b"Length: 5\r\n\r\nhello";
+
+/// Another.
+const OTHER: &[u8] = b"POST /b HTTP/1.1\r\nContent-Length: 2\r\n\r\nhi";
+
+/// Calls of this name, from the n-th on each `every`-th.
+fn each(name: Name, n: usize, every: usize, act: Act) -> Rule {
+    Rule {
+        name: Some(name),
+        n,
+        every,
+        act,
+    }
+}
+
+/// The time so many milliseconds behind the start.
+fn at(millis: u64) -> Duration {
+    start().saturating_add(Duration::from_millis(millis))
+}
+
+/// A peer that comes, and sends these bytes at a time.
+fn sender(alloc: Global, comes: u64, sends: u64, bytes: &[u8]) -> Result<Peer, AllocError> {
+    let mut peer = Peer::coming(alloc, address(1), at(comes));
+    peer.sends(alloc, at(sends), bytes)?;
+    Ok(peer)
+}
+
+/// Takes the next connection. Whether all that it brings until these bytes are there are these.
+fn hears<S: Site>(site: &mut S, bytes: &[u8]) -> bool {
+    if site.take() != Ok(Taken::Opened) {
+        return false;
+    }
+    let mut rest = bytes;
+    let mut buf = [0u8; 64];
+    for _ in 0..64 {
+        if rest.is_empty() {
+            return true;
+        }
+        let n = site.receive(&mut buf).unwrap_or(0);
+        match rest.strip_prefix(&buf[..n.min(64)]) {
+            Some(more) if n > 0 => rest = more,
+            _ => return false,
+        }
+    }
+    false
+}
+
+/// The first of two peers sends its request in two parts, and the second its at once; a third is posted to.
+fn three(alloc: Global) -> Result<World, AllocError> {
+    let mut world = world(alloc);
+    let mut first = sender(alloc, 0, 0, FRONT)?;
+    first.sends(alloc, at(30), BACK)?;
+    world.peer(first)?;
+    world.peer(sender(alloc, 10, 10, OTHER)?)?;
+    world.peer(Peer::found(alloc, address(9), Begin::At(at(50))))?;
+    Ok(world)
+}
+
+/// Serves both, and posts between.
+fn serves(alloc: Global, system: &mut MemorySystem) -> bool {
+    let mut site = NodeSite::new(alloc, system);
+    let attached = site.attach("d/j", "127.0.0.1:9").is_ok();
+    let second = hears(&mut site, OTHER) && site.send(b"HTTP/1.1 ").is_ok();
+    let posted = site.post("10.0.0.9", 80, POST).is_ok();
+    let answered = site.send(ANSWER).is_ok();
+    site.close();
+    let first = hears(&mut site, FRONT)
+        && site.receive(&mut [0u8; 5]) == Ok(5)
+        && site.send(ANSWER).is_ok();
+    site.close();
+    site.leave();
+    attached && second && posted && answered && first && site.lost() == 0
+}
+
+/// Whether each has what was meant for it, whole and once.
+fn arrives(alloc: Global, rules: &[Rule]) -> Result<bool, AllocError> {
+    let mut world = three(alloc)?;
+    for rule in rules.iter() {
+        world.rule(*rule)?;
+    }
+    let mut system = MemorySystem::new(world);
+    let served = serves(alloc, &mut system);
+    match system.world().peers() {
+        [first, second, third] => Ok(
+            served
+                && first.took() == ANSWER
+                && second.took().strip_prefix(b"HTTP/1.1 ") == Some(ANSWER)
+                && third.took() == POST
+                && first.is_shut()
+                && second.is_shut()
+                && !third.is_shut(),
+        ),
+        _ => Ok(false),
+    }
+}
+
+/// What befalls all calls of a name, in the words of a failed test.
+const BEFALLS: &[(&str, Name, usize, usize, Act)] = &[
+    ("nothing", Name::Duplicate, 1, 0, Act::AtMost(1)),
+    ("writes of one byte", Name::Write, 1, 1, Act::AtMost(1)),
+    ("writes that are interrupted", Name::Write, 1, 2, Act::Fail(EINTR)),
+    ("writes that would wait", Name::Write, 1, 2, Act::Fail(EAGAIN)),
+    ("reads of one byte", Name::Read, 1, 1, Act::AtMost(1)),
+    ("reads that are interrupted", Name::Read, 1, 2, Act::Fail(EINTR)),
+    ("reads that would wait", Name::Read, 1, 2, Act::Fail(EAGAIN)),
+    ("polls that are interrupted", Name::Poll, 1, 2, Act::Fail(EINTR)),
+    ("accepts that are interrupted", Name::Accept, 1, 2, Act::Fail(EINTR)),
+];
+
+#[test]
+fn answers_and_posts_arrive_whole_and_once(rt: HostRuntime) -> Result<(), Fail> {
+    for (words, name, n, every, act) in BEFALLS {
+        let rules = [
+            each(*name, *n, *every, *act),
+            each(Name::Write, 1, 1, Act::AtMost(1)),
+        ];
+        let alone = arrives(rt.alloc(), &rules[..1])?;
+        let short = arrives(rt.alloc(), &rules)?;
+        assert!(rt; alone && short, "{words}");
+    }
+    Ok(())
+}
+
+/// Peers of which one is silent, one stops in the middle, one is reset there, and two are whole later.
+fn slow(alloc: Global) -> Result<World, AllocError> {
+    let mut world = world(alloc);
+    world.peer(Peer::coming(alloc, address(1), at(0)))?;
+    world.peer(sender(alloc, 0, 0, FRONT)?)?;
+    let mut reset = sender(alloc, 0, 0, BACK)?;
+    reset.ends(End::Reset(at(3000)));
+    world.peer(reset)?;
+    world.peer(sender(alloc, 0, 1000, OTHER)?)?;
+    world.peer(sender(alloc, 2000, 2000, OTHER)?)?;
+    Ok(world)
+}
+
+/// Each takes its turn when it can, and the silent one none.
+fn turns(alloc: Global) -> Result<bool, AllocError> {
+    let mut system = MemorySystem::new(slow(alloc)?);
+    let mut site = NodeSite::new(alloc, &mut system);
+    let attached = site.attach("d/j", "127.0.0.1:9").is_ok();
+    let bad = hears(&mut site, BACK);
+    let whole = hears(&mut site, OTHER) && site.now() == 1_001_000;
+    let later = hears(&mut site, OTHER) && site.now() == 1_002_000;
+    let stopped = hears(&mut site, FRONT) && site.now() == 1_010_000;
+    let over = site.receive(&mut [0u8; 9]).is_err() && site.now() == 1_010_000;
+    let none = site.take().is_err();
+    drop(site);
+    Ok(attached && bad && whole && later && stopped && over && none && system.world().is_over())
+}
+
+#[test]
+fn nobody_is_waited_for(rt: HostRuntime) -> Result<(), Fail> {
+    let right = turns(rt.alloc())?;
+    assert!(rt; right, "turns");
+    Ok(())
+}
+
+/// What a listener's first call that fails so makes of the first turn: when it comes, in milliseconds, or that none does.
+const ACCEPTS: &[(i32, Option<u64>)] = &[
+    // the process or the system lacks something, or the network does
+    (24, Some(100)),
+    (23, Some(100)),
+    (105, Some(100)),
+    (12, Some(100)),
+    (1, Some(100)),
+    (71, Some(100)),
+    (112, Some(100)),
+    (64, Some(100)),
+    (95, Some(100)),
+    // one connection failed
+    (103, Some(0)),
+    (EINTR, Some(0)),
+    // it is no listener
+    (EBADF, None),
+];
+
+/// When the first turn comes, and how often was accepted till then.
+fn first_turn(alloc: Global, code: i32) -> Result<(Option<u64>, usize), AllocError> {
+    let mut world = world(alloc);
+    world.peer(sender(alloc, 0, 0, OTHER)?)?;
+    world.rule(each(Name::Accept, 1, 0, Act::Fail(code)))?;
+    let mut system = MemorySystem::new(world);
+    let mut site = NodeSite::new(alloc, &mut system);
+    let attached = site.attach("d/j", "127.0.0.1:9").is_ok();
+    let time = if attached && hears(&mut site, OTHER) {
+        Some(site.now().saturating_sub(1_000_000))
+    } else {
+        None
+    };
+    drop(site);
+    Ok((time, system.world().count(Name::Accept)))
+}
+
+#[test]
+fn what_accept_lacks_is_waited_out(rt: HostRuntime) -> Result<(), Fail> {
+    for (code, turn) in ACCEPTS {
+        let (time, accepts) = first_turn(rt.alloc(), *code)?;
+        assert!(rt; time == *turn && accepts <= 3, "error {code}");
+    }
+    Ok(())
+}
+
+/// Peers whose requests come in time, while a turn takes long: the disk is slow.
+fn busy(alloc: Global) -> Result<bool, AllocError> {
+    let mut world = world(alloc);
+    world.peer(sender(alloc, 0, 0, OTHER)?)?;
+    world.peer(sender(alloc, 0, 0, OTHER)?)?;
+    let mut first = sender(alloc, 0, 1000, FRONT)?;
+    first.sends(alloc, at(1500), BACK)?;
+    world.peer(first)?;
+    world.rule(each(Name::Sync, 4, 1, Act::Lasts(6000)))?;
+    let mut system = MemorySystem::new(world);
+    let mut site = NodeSite::new(alloc, &mut system);
+    let attached = site.attach("d/j", "127.0.0.1:9").is_ok();
+    let one = hears(&mut site, OTHER) && site.sync(0).is_ok();
+    let other = hears(&mut site, OTHER) && site.sync(0).is_ok();
+    let late = hears(&mut site, FRONT);
+    Ok(attached && one && other && late)
+}
+
+#[test]
+fn a_request_that_came_in_time_has_its_turn(rt: HostRuntime) -> Result<(), Fail> {
+    let served = busy(rt.alloc())?;
+    assert!(rt; served, "served");
+    Ok(())
+}
+
+/// The most connections that are read aside.
+const MOST: usize = 1024;
+
+/// One connection more than are read aside: the oldest is closed, and those behind it are served.
+fn crowded(alloc: Global) -> Result<bool, AllocError> {
+    let mut world = world(alloc);
+    world.peer(sender(alloc, 0, 1000, FRONT)?)?;
+    world.peer(sender(alloc, 0, 2000, OTHER)?)?;
+    for _ in 1..MOST {
+        world.peer(Peer::coming(alloc, address(1), at(0)))?;
+    }
+    let mut system = MemorySystem::new(world);
+    let mut site = NodeSite::new(alloc, &mut system);
+    let attached = site.attach("d/j", "127.0.0.1:9").is_ok();
+    let second = hears(&mut site, OTHER) && site.now() == 1_002_000;
+    let none = site.take().is_err();
+    Ok(attached && second && none)
+}
+
+#[test]
+fn the_oldest_makes_room(rt: HostRuntime) -> Result<(), Fail> {
+    let right = crowded(rt.alloc())?;
+    assert!(rt; right, "crowded");
+    Ok(())
+}
