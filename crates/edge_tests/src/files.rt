@@ -1,7 +1,8 @@
 //! The files of a machine, with a call of the system that fails, that moves little, or that was interrupted.
 
 use atx_sites::file_site::FileSite;
-use site_model::site::Site;
+use atx_sites::node_site::NodeSite;
+use site_model::site::{AttachFailed, Site};
 use std::alloc::{AllocError, Global};
 use std::test::Fail;
 use system_memory::memory::MemorySystem;
@@ -10,14 +11,19 @@ use system_memory::world::World;
 
 /// An interrupted call, a fault of the disk, and no room on it.
 const EINTR: i32 = 4;
+
 const EIO: i32 = 5;
+
 const ENOSPC: i32 = 28;
 
 /// What a machine is asked: to attach, then of the first file to write, sync, size, read and raise a gate, and of the second to
 /// write and sync.
 const STEPS: usize = 8;
 
-/// Which steps succeed where the n-th call of the system fails.
+/// How many calls open the files. A node listens behind them.
+const OPENING: usize = 12;
+
+/// Which steps succeed where the n-th call of the system fails, but for that with which a node listens.
 const ROWS: &[(usize, &str)] = &[
     (0, "11111111"),
     // both files are opened, each looked at, locked, made last and read from the disk from now on, and their folder is made last
@@ -131,29 +137,62 @@ fn each(name: Name, n: usize, every: usize, act: Act) -> Rule {
     }
 }
 
-/// A machine in a world with these rules, driven through the steps.
-fn driven(alloc: Global, rules: &[Rule]) -> Result<(MemorySystem, [bool; STEPS]), AllocError> {
+/// A world with these rules.
+fn ruled(alloc: Global, rules: &[Rule]) -> Result<World, AllocError> {
     let mut world = World::new(alloc);
     for rule in rules.iter() {
         world.rule(*rule)?;
     }
-    let mut system = MemorySystem::new(world);
+    Ok(world)
+}
+
+/// A machine with no network in a world with these rules, driven through the steps.
+fn driven(alloc: Global, rules: &[Rule]) -> Result<(MemorySystem, [bool; STEPS]), AllocError> {
+    let mut system = MemorySystem::new(ruled(alloc, rules)?);
     let done = steps(&mut FileSite::new(&mut system));
     Ok((system, done))
 }
 
-/// Whether a row is as it says, with the files whole where no call failed.
-fn holds(alloc: Global, n: usize, row: &str) -> Result<bool, AllocError> {
-    let (system, done) = driven(alloc, &[failing(n, EIO)])?;
-    let world = system.world();
-    Ok(is_row(&done, row) && believes_none(world.notes()))
+/// A machine with a network.
+fn node_driven(alloc: Global, rules: &[Rule]) -> Result<(MemorySystem, [bool; STEPS]), AllocError> {
+    let mut system = MemorySystem::new(ruled(alloc, rules)?);
+    let done = steps(&mut NodeSite::new(alloc, &mut system));
+    Ok((system, done))
 }
 
 #[test]
 fn a_call_that_fails_fails_alone(rt: HostRuntime) -> Result<(), Fail> {
     for (n, row) in ROWS {
-        let holds = holds(rt.alloc(), *n, row)?;
-        assert!(rt; holds, "call {n}");
+        let (system, done) = driven(rt.alloc(), &[failing(*n, EIO)])?;
+        let right = is_row(&done, row) && believes_none(system.world().notes());
+        assert!(rt; right, "call {n}");
+        let at = if *n > OPENING { n + 1 } else { *n };
+        let (node, node_done) = node_driven(rt.alloc(), &[failing(at, EIO)])?;
+        let node_right = is_row(&node_done, row) && believes_none(node.world().notes());
+        assert!(rt; node_right, "call {at} of a node");
+    }
+    Ok(())
+}
+
+/// Why a node isn't attached where the n-th call fails.
+fn attaches(alloc: Global, n: usize) -> Result<Result<(), AttachFailed>, AllocError> {
+    let mut system = MemorySystem::new(ruled(alloc, &[failing(n, EIO)])?);
+    let mut site = NodeSite::new(alloc, &mut system);
+    Ok(site.attach("d/j", "127.0.0.1:9"))
+}
+
+#[test]
+fn a_node_tells_the_disk_from_the_network(rt: HostRuntime) -> Result<(), Fail> {
+    for n in 1..OPENING + 3 {
+        let want = if n <= OPENING {
+            Err(AttachFailed::Disk)
+        } else if n == OPENING + 1 {
+            Err(AttachFailed::Link)
+        } else {
+            Ok(())
+        };
+        let attached = attaches(rt.alloc(), n)?;
+        assert!(rt; attached == want, "call {n}");
     }
     Ok(())
 }

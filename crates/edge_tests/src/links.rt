@@ -13,11 +13,16 @@ use system_memory::world::World;
 
 /// Errors of calls by their numbers.
 const EINTR: i32 = 4;
+
 const EBADF: i32 = 9;
+
 const EAGAIN: i32 = 11;
 
-/// A whole request, in two parts.
+/// A whole request, and its parts.
+const WHOLE: &[u8] = b"POST /a HTTP/1.1\r\nContent-Length: 5\r\n\r\nhello";
+
 const FRONT: &[u8] = b"POST /a HTTP/1.1\r\nContent-";
+
 const BACK: &[u8] = b"Length: 5\r\n\r\nhello";
 
 /// Another.
@@ -84,9 +89,7 @@ fn serves(alloc: Global, system: &mut MemorySystem) -> bool {
     let posted = site.post("10.0.0.9", 80, POST).is_ok();
     let answered = site.send(ANSWER).is_ok();
     site.close();
-    let first = hears(&mut site, FRONT)
-        && site.receive(&mut [0u8; 5]) == Ok(5)
-        && site.send(ANSWER).is_ok();
+    let first = hears(&mut site, WHOLE) && site.send(ANSWER).is_ok();
     site.close();
     site.leave();
     attached && second && posted && answered && first && site.lost() == 0
@@ -118,13 +121,43 @@ fn arrives(alloc: Global, rules: &[Rule]) -> Result<bool, AllocError> {
 const BEFALLS: &[(&str, Name, usize, usize, Act)] = &[
     ("nothing", Name::Duplicate, 1, 0, Act::AtMost(1)),
     ("writes of one byte", Name::Write, 1, 1, Act::AtMost(1)),
-    ("writes that are interrupted", Name::Write, 1, 2, Act::Fail(EINTR)),
-    ("writes that would wait", Name::Write, 1, 2, Act::Fail(EAGAIN)),
+    (
+        "writes that are interrupted",
+        Name::Write,
+        1,
+        2,
+        Act::Fail(EINTR),
+    ),
+    (
+        "writes that would wait",
+        Name::Write,
+        1,
+        2,
+        Act::Fail(EAGAIN),
+    ),
     ("reads of one byte", Name::Read, 1, 1, Act::AtMost(1)),
-    ("reads that are interrupted", Name::Read, 1, 2, Act::Fail(EINTR)),
+    (
+        "reads that are interrupted",
+        Name::Read,
+        1,
+        2,
+        Act::Fail(EINTR),
+    ),
     ("reads that would wait", Name::Read, 1, 2, Act::Fail(EAGAIN)),
-    ("polls that are interrupted", Name::Poll, 1, 2, Act::Fail(EINTR)),
-    ("accepts that are interrupted", Name::Accept, 1, 2, Act::Fail(EINTR)),
+    (
+        "polls that are interrupted",
+        Name::Poll,
+        1,
+        2,
+        Act::Fail(EINTR),
+    ),
+    (
+        "accepts that are interrupted",
+        Name::Accept,
+        1,
+        2,
+        Act::Fail(EINTR),
+    ),
 ];
 
 #[test]
@@ -235,7 +268,7 @@ fn busy(alloc: Global) -> Result<bool, AllocError> {
     let attached = site.attach("d/j", "127.0.0.1:9").is_ok();
     let one = hears(&mut site, OTHER) && site.sync(0).is_ok();
     let other = hears(&mut site, OTHER) && site.sync(0).is_ok();
-    let late = hears(&mut site, FRONT);
+    let late = hears(&mut site, WHOLE);
     Ok(attached && one && other && late)
 }
 

@@ -11,7 +11,8 @@ use system_memory::peer::{Begin, End, Peer};
 use system_memory::script::Name;
 use system_memory::world::World;
 
-pub(crate) const POST: &[u8] = b"POST /c HTTP/1.1\r\nHost: 10.0.0.9\r\nContent-Length: 3\r\n\r\nyes";
+pub(crate) const POST: &[u8] =
+    b"POST /c HTTP/1.1\r\nHost: 10.0.0.9\r\nContent-Length: 3\r\n\r\nyes";
 
 pub(crate) const ANSWER: &[u8] = b"HTTP/1.1 202 Accepted\r\nContent-Length: 0\r\n\r\n";
 

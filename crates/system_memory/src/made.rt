@@ -72,7 +72,9 @@ pub enum Made<'a> {
         got: &'a io::Result<()>,
     },
     /// What poll is asked, before it finds anything.
-    Asks { asks: &'a [pollfd] },
+    Asks {
+        asks: &'a [pollfd],
+    },
     Poll {
         millis: i32,
         found: &'a [pollfd],
@@ -92,5 +94,7 @@ pub enum Made<'a> {
         stream: &'a Handle,
         got: &'a io::Result<()>,
     },
-    Monotonic { got: &'a io::Result<Duration> },
+    Monotonic {
+        got: &'a io::Result<Duration>,
+    },
 }

@@ -33,7 +33,6 @@ impl MemorySystem {
     pub fn world(&self) -> &World {
         &self.world
     }
-
 }
 
 impl System for MemorySystem {
@@ -83,14 +82,24 @@ impl System for MemorySystem {
     fn read_at(&mut self, file: &Handle, buf: &mut [u8], at: u64) -> io::Result<usize> {
         let got = self.world.read_at(file.number, buf, at);
         self.world.end(&got);
-        self.ledger = self.ledger.and(&Made::ReadAt { file, at, buf, got: &got });
+        self.ledger = self.ledger.and(&Made::ReadAt {
+            file,
+            at,
+            buf,
+            got: &got,
+        });
         got
     }
 
     fn write_at(&mut self, file: &Handle, bytes: &[u8], at: u64) -> io::Result<usize> {
         let got = self.world.write_at(file.number, bytes, at);
         self.world.end(&got);
-        self.ledger = self.ledger.and(&Made::WriteAt { file, at, bytes, got: &got });
+        self.ledger = self.ledger.and(&Made::WriteAt {
+            file,
+            at,
+            bytes,
+            got: &got,
+        });
         got
     }
 
@@ -118,14 +127,21 @@ impl System for MemorySystem {
     fn accept(&mut self, listener: &Handle) -> io::Result<(Handle, SocketAddr)> {
         let got = self.world.accept(listener.number);
         self.world.end(&got);
-        self.ledger = self.ledger.and(&Made::Accept { listener, got: &got });
+        self.ledger = self.ledger.and(&Made::Accept {
+            listener,
+            got: &got,
+        });
         got
     }
 
     fn resolve(&mut self, host: &str, port: u16) -> io::Result<HostAddrs> {
         let got = self.world.resolve(host, port);
         self.world.end(&got);
-        self.ledger = self.ledger.and(&Made::Resolve { host, port, got: &got });
+        self.ledger = self.ledger.and(&Made::Resolve {
+            host,
+            port,
+            got: &got,
+        });
         got
     }
 
@@ -146,21 +162,33 @@ impl System for MemorySystem {
     fn poll(&mut self, asks: &mut [pollfd], millis: i32) -> i32 {
         self.ledger = self.ledger.and(&Made::Asks { asks });
         let count = self.world.poll(asks, millis);
-        self.ledger = self.ledger.and(&Made::Poll { millis, found: asks, count });
+        self.ledger = self.ledger.and(&Made::Poll {
+            millis,
+            found: asks,
+            count,
+        });
         count
     }
 
     fn read(&mut self, stream: &Handle, buf: &mut [u8]) -> io::Result<usize> {
         let got = self.world.read(stream.number, buf);
         self.world.end(&got);
-        self.ledger = self.ledger.and(&Made::Read { stream, buf, got: &got });
+        self.ledger = self.ledger.and(&Made::Read {
+            stream,
+            buf,
+            got: &got,
+        });
         got
     }
 
     fn write(&mut self, stream: &Handle, bytes: &[u8]) -> io::Result<usize> {
         let got = self.world.write(stream.number, bytes);
         self.world.end(&got);
-        self.ledger = self.ledger.and(&Made::Write { stream, bytes, got: &got });
+        self.ledger = self.ledger.and(&Made::Write {
+            stream,
+            bytes,
+            got: &got,
+        });
         got
     }
 

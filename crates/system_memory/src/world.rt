@@ -19,9 +19,13 @@ const MOST_BYTES: usize = 1 << 20;
 const MOST_CALLS: usize = 20_000;
 /// The errors of calls that have none by a rule.
 const ENOENT: i32 = 2;
+
 const EBADF: i32 = 9;
+
 const EAGAIN: i32 = 11;
+
 const EINVAL: i32 = 22;
+
 const ENOSPC: i32 = 28;
 
 /// A file with its name.
@@ -120,13 +124,11 @@ impl World {
     pub fn file(&mut self, name: &str, bytes: &[u8], is_file: bool) -> Result<(), AllocError> {
         let name = kept(self.alloc, name.as_bytes())?;
         let bytes = kept(self.alloc, bytes)?;
-        self.files.push(
-            Stored {
-                name,
-                bytes,
-                is_file,
-            },
-        )?;
+        self.files.push(Stored {
+            name,
+            bytes,
+            is_file,
+        })?;
         Ok(())
     }
 
@@ -182,22 +184,26 @@ impl World {
     }
 
     /// A call begins: how many bytes it moves at most, or how it fails.
-    fn begin(&mut self, name: Name, number: Option<i32>, at: u64, bytes: usize) -> io::Result<usize> {
+    fn begin(
+        &mut self,
+        name: Name,
+        number: Option<i32>,
+        at: u64,
+        bytes: usize,
+    ) -> io::Result<usize> {
         self.counts[name as usize] = self.count(name).saturating_add(1);
         self.calls = self.calls.saturating_add(1);
         if self.notes.len() >= MOST_CALLS {
             self.over = true;
         } else {
-            self.notes.push(
-                Note {
-                    name,
-                    number,
-                    at,
-                    bytes,
-                    done: false,
-                    time: self.clock,
-                },
-            )?;
+            self.notes.push(Note {
+                name,
+                number,
+                at,
+                bytes,
+                done: false,
+                time: self.clock,
+            })?;
         }
         match self.act(name) {
             Act::Fail(code) => Err(errno(code)),
@@ -281,12 +287,10 @@ impl World {
         self.begin(Name::Examine, Some(file), 0, 0)?;
         let place = self.file_of(file)?;
         match self.files.get(place) {
-            Some(found) => Ok(
-                Stat {
-                    is_file: found.is_file,
-                    bytes: found.bytes.len() as u64,
-                },
-            ),
+            Some(found) => Ok(Stat {
+                is_file: found.is_file,
+                bytes: found.bytes.len() as u64,
+            }),
             None => Err(errno(EBADF)),
         }
     }
