@@ -3,6 +3,7 @@
 use crate::posts::{ANSWER, POST, address, start, world};
 use atx_sites::node_site::NodeSite;
 use site_model::site::{Site, Taken};
+use site_model::source::Failed;
 use std::alloc::{AllocError, Global};
 use std::test::Fail;
 use std::time::Duration;
@@ -17,6 +18,8 @@ const EINTR: i32 = 4;
 const EBADF: i32 = 9;
 
 const EAGAIN: i32 = 11;
+
+const ENOBUFS: i32 = 105;
 
 /// A whole request, and its parts.
 const WHOLE: &[u8] = b"POST /a HTTP/1.1\r\nContent-Length: 5\r\n\r\nhello";
@@ -117,74 +120,63 @@ fn arrives(alloc: Global, rules: &[Rule]) -> Result<bool, AllocError> {
     }
 }
 
-/// What befalls all calls of a name, in the words of a failed test.
-const BEFALLS: &[(&str, Name, usize, usize, Act)] = &[
-    ("nothing", Name::Duplicate, 1, 0, Act::AtMost(1)),
-    ("writes of one byte", Name::Write, 1, 1, Act::AtMost(1)),
-    (
-        "writes that are interrupted",
-        Name::Write,
-        1,
-        2,
-        Act::Fail(EINTR),
-    ),
-    (
-        "writes that would wait",
-        Name::Write,
-        1,
-        2,
-        Act::Fail(EAGAIN),
-    ),
-    ("reads of one byte", Name::Read, 1, 1, Act::AtMost(1)),
-    (
-        "reads that are interrupted",
-        Name::Read,
-        1,
-        2,
-        Act::Fail(EINTR),
-    ),
-    ("reads that would wait", Name::Read, 1, 2, Act::Fail(EAGAIN)),
-    (
-        "polls that are interrupted",
-        Name::Poll,
-        1,
-        2,
-        Act::Fail(EINTR),
-    ),
-    (
-        "accepts that are interrupted",
-        Name::Accept,
-        1,
-        2,
-        Act::Fail(EINTR),
-    ),
+/// What befalls the first call of a name, and each so many calls behind it.
+const BEFALLS: &[(Name, usize, Act)] = &[
+    (Name::Write, 1, Act::AtMost(usize::MAX)),
+    (Name::Write, 2, Act::Fail(EINTR)),
+    (Name::Write, 3, Act::Fail(EAGAIN)),
+    (Name::Read, 1, Act::AtMost(1)),
+    (Name::Read, 2, Act::Fail(EINTR)),
+    (Name::Read, 3, Act::Fail(EAGAIN)),
+    (Name::Poll, 2, Act::Fail(EINTR)),
+    (Name::Accept, 2, Act::Fail(EINTR)),
 ];
 
 #[test]
 fn answers_and_posts_arrive_whole_and_once(rt: HostRuntime) -> Result<(), Fail> {
-    for (words, name, n, every, act) in BEFALLS {
+    for (name, every, act) in BEFALLS {
         let rules = [
-            each(*name, *n, *every, *act),
+            each(*name, 1, *every, *act),
             each(Name::Write, 1, 1, Act::AtMost(1)),
         ];
         let alone = arrives(rt.alloc(), &rules[..1])?;
         let short = arrives(rt.alloc(), &rules)?;
-        assert!(rt; alone && short, "{words}");
+        assert!(rt; alone && short, "{name:?} {every} {act:?}");
     }
     Ok(())
 }
 
-/// Peers of which one is silent, one stops in the middle, one is reset there, and two are whole later.
+/// A request whose body waits for an interim answer.
+const HEAD: &[u8] = b"POST /d HTTP/1.1\r\nExpect: 100-continue\r\nContent-Length: 2\r\n\r\n";
+
+/// Peers of which one is silent, one stops in the middle, one is reset there, two are whole later, one ends without a byte, and
+/// one waits for an interim answer.
 fn slow(alloc: Global) -> Result<World, AllocError> {
     let mut world = world(alloc);
     world.peer(Peer::coming(alloc, address(1), at(0)))?;
     world.peer(sender(alloc, 0, 0, FRONT)?)?;
-    let mut reset = sender(alloc, 0, 0, BACK)?;
+    let mut reset = sender(alloc, 0, 0, FRONT)?;
     reset.ends(End::Reset(at(3000)));
     world.peer(reset)?;
     world.peer(sender(alloc, 0, 1000, OTHER)?)?;
-    world.peer(sender(alloc, 2000, 2000, OTHER)?)?;
+    world.peer(sender(alloc, 2000, 2000, WHOLE)?)?;
+    let mut ended = Peer::coming(alloc, address(2), at(0));
+    ended.ends(End::Closed(at(4000)));
+    world.peer(ended)?;
+    let mut waits = sender(alloc, 5000, 5000, HEAD)?;
+    waits.sends(alloc, at(5500), b"ok")?;
+    world.peer(waits)?;
     Ok(world)
+}
+
+/// Whether the next connection brings these bytes, at a time in milliseconds.
+fn hears_at<S: Site>(site: &mut S, bytes: &[u8], millis: u64) -> bool {
+    hears(site, bytes) && site.now() == millis.saturating_add(1_000_000)
+}
+
+/// Whether the connection brings nothing more than this, at a time in milliseconds.
+fn ends_at<S: Site>(site: &mut S, end: Result<usize, Failed>, millis: u64) -> bool {
+    site.receive(&mut [0u8; 9]) == end && site.now() == millis.saturating_add(1_000_000)
 }
 
 /// Each takes its turn when it can, and the silent one none.
@@ -192,20 +184,48 @@ fn turns(alloc: Global) -> Result<bool, AllocError> {
     let mut system = MemorySystem::new(slow(alloc)?);
     let mut site = NodeSite::new(alloc, &mut system);
     let attached = site.attach("d/j", "127.0.0.1:9").is_ok();
-    let bad = hears(&mut site, BACK);
-    let whole = hears(&mut site, OTHER) && site.now() == 1_001_000;
-    let later = hears(&mut site, OTHER) && site.now() == 1_002_000;
-    let stopped = hears(&mut site, FRONT) && site.now() == 1_010_000;
-    let over = site.receive(&mut [0u8; 9]).is_err() && site.now() == 1_010_000;
+    let whole = hears_at(&mut site, OTHER, 1000) && hears_at(&mut site, WHOLE, 2000);
+    let reset = hears_at(&mut site, FRONT, 3000) && ends_at(&mut site, Err(Failed), 3000);
+    let ended = hears_at(&mut site, b"", 4000) && ends_at(&mut site, Ok(0), 4000);
+    let waits = hears_at(&mut site, HEAD, 5000) && ends_at(&mut site, Ok(2), 5500);
+    let stopped = hears_at(&mut site, FRONT, 10_000) && ends_at(&mut site, Err(Failed), 10_000);
     let none = site.take().is_err();
     drop(site);
-    Ok(attached && bad && whole && later && stopped && over && none && system.world().is_over())
+    let over = system.world().is_over();
+    Ok(attached && whole && reset && ended && waits && stopped && none && over)
 }
 
 #[test]
 fn nobody_is_waited_for(rt: HostRuntime) -> Result<(), Fail> {
     let right = turns(rt.alloc())?;
     assert!(rt; right, "turns");
+    Ok(())
+}
+
+/// An answer of which a write failed is cut there, and nothing more is sent on its connection.
+fn cut(alloc: Global) -> Result<bool, AllocError> {
+    let mut world = world(alloc);
+    world.peer(sender(alloc, 0, 0, OTHER)?)?;
+    world.rule(each(Name::Write, 5, 0, Act::Fail(ENOBUFS)))?;
+    world.rule(each(Name::Write, 1, 1, Act::AtMost(1)))?;
+    let mut system = MemorySystem::new(world);
+    let mut site = NodeSite::new(alloc, &mut system);
+    let attached = site.attach("d/j", "127.0.0.1:9").is_ok();
+    let failed = hears(&mut site, OTHER) && site.send(ANSWER).is_err();
+    let again = site.send(ANSWER).is_err();
+    site.close();
+    site.leave();
+    drop(site);
+    match system.world().peers() {
+        [peer] => Ok(attached && failed && again && peer.took() == b"HTTP".as_slice()),
+        _ => Ok(false),
+    }
+}
+
+#[test]
+fn a_cut_answer_stays_cut(rt: HostRuntime) -> Result<(), Fail> {
+    let right = cut(rt.alloc())?;
+    assert!(rt; right, "cut");
     Ok(())
 }
 
@@ -293,7 +313,7 @@ fn crowded(alloc: Global) -> Result<bool, AllocError> {
     let mut system = MemorySystem::new(world);
     let mut site = NodeSite::new(alloc, &mut system);
     let attached = site.attach("d/j", "127.0.0.1:9").is_ok();
-    let second = hears(&mut site, OTHER) && site.now() == 1_002_000;
+    let second = hears_at(&mut site, OTHER, 2000);
     let none = site.take().is_err();
     Ok(attached && second && none)
 }

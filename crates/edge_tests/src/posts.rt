@@ -38,12 +38,13 @@ fn at(millis: u64) -> Duration {
     start().saturating_add(Duration::from_millis(millis))
 }
 
-/// A host with two addresses; how each begins and how many bytes it takes; what each got, how many posts were lost, and when
-/// nothing leaves any more, in milliseconds.
+/// A host with two addresses; how each begins and ends, and how many bytes it takes; what each got, how many posts were lost, and
+/// when nothing leaves any more, in milliseconds.
 #[derive(Clone, Copy)]
 struct Row {
     words: &'static str,
     begins: [Begin; 2],
+    end: End,
     room: usize,
     first: &'static [u8],
     second: &'static [u8],
@@ -51,14 +52,12 @@ struct Row {
     millis: u64,
 }
 
-/// The peers of a row. Each ends its side 100 milliseconds behind its beginning, where it accepts.
+/// The peers of a row.
 fn hosts(alloc: Global, row: &Row) -> Result<World, AllocError> {
     let mut world = world(alloc);
     for (begin, host) in row.begins.iter().zip([1u8, 2]) {
         let mut peer = Peer::found(alloc, address(host), *begin);
-        if let Begin::At(time) = begin {
-            peer.ends(End::Closed(time.saturating_add(Duration::from_millis(100))));
-        }
+        peer.ends(row.end);
         peer.takes(row.room);
         world.host("n2.example", address(host))?;
         world.peer(peer)?;
@@ -93,6 +92,7 @@ fn a_post_leaves_aside(rt: HostRuntime) -> Result<(), Fail> {
         Row {
             words: "accepts at once",
             begins: [Begin::At(at(0)), Begin::Never],
+            end: End::Closed(at(100)),
             room: 1000,
             first: POST,
             second: b"",
@@ -102,6 +102,7 @@ fn a_post_leaves_aside(rt: HostRuntime) -> Result<(), Fail> {
         Row {
             words: "accepts later",
             begins: [Begin::At(at(4900)), Begin::Never],
+            end: End::Closed(at(5000)),
             room: 1000,
             first: POST,
             second: b"",
@@ -111,6 +112,7 @@ fn a_post_leaves_aside(rt: HostRuntime) -> Result<(), Fail> {
         Row {
             words: "never accepts",
             begins: [Begin::Never, Begin::At(at(0))],
+            end: End::Never,
             room: 1000,
             first: b"",
             second: b"",
@@ -120,6 +122,7 @@ fn a_post_leaves_aside(rt: HostRuntime) -> Result<(), Fail> {
         Row {
             words: "refuses at once, and the other accepts",
             begins: [Begin::Refused(at(0)), Begin::At(at(0))],
+            end: End::Closed(at(100)),
             room: 1000,
             first: b"",
             second: POST,
@@ -129,15 +132,17 @@ fn a_post_leaves_aside(rt: HostRuntime) -> Result<(), Fail> {
         Row {
             words: "refuses later, and the other accepts",
             begins: [Begin::Refused(at(2000)), Begin::At(at(0))],
+            end: End::Closed(at(2300)),
             room: 1000,
             first: b"",
             second: POST,
             lost: 0,
-            millis: 2000,
+            millis: 2300,
         },
         Row {
             words: "both refuse later",
             begins: [Begin::Refused(at(2000)), Begin::Refused(at(3000))],
+            end: End::Never,
             room: 1000,
             first: b"",
             second: b"",
@@ -145,8 +150,29 @@ fn a_post_leaves_aside(rt: HostRuntime) -> Result<(), Fail> {
             millis: 3000,
         },
         Row {
+            words: "accepts, and answers nothing",
+            begins: [Begin::At(at(1000)), Begin::Never],
+            end: End::Never,
+            room: 1000,
+            first: POST,
+            second: b"",
+            lost: 0,
+            millis: 6000,
+        },
+        Row {
+            words: "resets it in the middle",
+            begins: [Begin::At(at(0)), Begin::At(at(0))],
+            end: End::Reset(at(700)),
+            room: 3,
+            first: b"POS",
+            second: b"",
+            lost: 1,
+            millis: 700,
+        },
+        Row {
             words: "takes three bytes",
             begins: [Begin::At(at(3000)), Begin::At(at(0))],
+            end: End::Never,
             room: 3,
             first: b"POS",
             second: b"",
@@ -236,5 +262,40 @@ fn posts<S: Site>(site: &mut S) -> bool {
 fn a_name_is_looked_up_once_in_a_minute(rt: HostRuntime) -> Result<(), Fail> {
     let right = looks_up(rt.alloc())?;
     assert!(rt; right, "names");
+    Ok(())
+}
+
+/// The most connections that leave to one host.
+const MOST_TO_ONE: u64 = 64;
+
+/// A host that never accepts keeps its share of those that leave, and no other waits for it.
+fn crowds(alloc: Global) -> Result<bool, AllocError> {
+    let mut world = world(alloc);
+    for _ in 0..MOST_TO_ONE {
+        world.peer(Peer::found(alloc, address(1), Begin::Never))?;
+    }
+    world.peer(Peer::found(alloc, address(2), Begin::At(at(0))))?;
+    let mut system = MemorySystem::new(world);
+    let mut site = NodeSite::new(alloc, &mut system);
+    let mut all = true;
+    for _ in 0..MOST_TO_ONE {
+        all = site.post("10.0.0.1", 80, POST).is_ok() && all;
+    }
+    let full = site.post("10.0.0.1", 80, POST).is_err();
+    let other = site.post("10.0.0.2", 80, POST).is_ok() && site.now() == 1_000_000;
+    site.leave();
+    let lost = site.lost() == MOST_TO_ONE && site.now() == 1_005_000;
+    drop(site);
+    let arrived = match system.world().peers().last() {
+        Some(peer) => peer.took() == POST,
+        None => false,
+    };
+    Ok(all && full && other && lost && arrived)
+}
+
+#[test]
+fn a_host_has_its_share(rt: HostRuntime) -> Result<(), Fail> {
+    let right = crowds(rt.alloc())?;
+    assert!(rt; right, "crowds");
     Ok(())
 }

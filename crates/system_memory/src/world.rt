@@ -162,11 +162,6 @@ impl World {
         self.peers.as_slice()
     }
 
-    /// The time.
-    pub fn clock(&self) -> Duration {
-        self.clock
-    }
-
     /// Whether nothing more happens in it.
     pub fn is_over(&self) -> bool {
         self.over
@@ -548,6 +543,9 @@ impl World {
         };
         for _ in 0..u16::MAX {
             let n = self.look(asks);
+            if self.over {
+                self.clock = ends.unwrap_or(self.clock);
+            }
             if n > 0 || ends == Some(self.clock) {
                 return n;
             }
