@@ -126,7 +126,7 @@ const BEFALLS: &[(Name, usize, Act)] = &[
     (Name::Write, 2, Act::Fail(EINTR)),
     (Name::Write, 3, Act::Fail(EAGAIN)),
     (Name::Read, 1, Act::AtMost(1)),
-    (Name::Read, 2, Act::Fail(EINTR)),
+    (Name::Read, 3, Act::Fail(EINTR)),
     (Name::Read, 3, Act::Fail(EAGAIN)),
     (Name::Poll, 2, Act::Fail(EINTR)),
     (Name::Accept, 2, Act::Fail(EINTR)),
