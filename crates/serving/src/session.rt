@@ -172,7 +172,7 @@ impl Session {
 
     /// Keeps what was made, and what was refused. There is room for it.
     fn keep(&mut self, item: Option<&InitiatorLine>, answer: &Answer)
-        requires { HasRoom (option_map (λ l. l.now) item.entry) self.old.made.items (vec_capacity self.old.made) self.old.unmet.items (vec_capacity self.old.unmet) }
+        requires { HasRoom (option_map (λ l. l.now) item) self.old.made.items (vec_capacity self.old.made) self.old.unmet.items (vec_capacity self.old.unmet) }
         ensures kept { (self.new.made.items ≡ self.old.made.items ++ adds (option_map (λ l. l.now) item.entry) answer.now) × (self.new.unmet.items ≡ self.old.unmet.items ++ lacks (option_map (λ l. l.now) item.entry) answer.now) }
         ensures node { (seen self.new.node ≡ seen self.old.node) × (self.new.node.role ≡ self.old.node.role) }
         ensures others { (self.new.met ≡ self.old.met) × (self.new.waited ≡ self.old.waited) }
@@ -208,7 +208,7 @@ impl Session {
         sink: &mut K,
     ) -> Option<Ended>
         requires waited { self.old.waited < 2 ^ 64 - 1 }
-        requires room { HasRoom (option_map (λ l. l.now) item.entry) self.old.made.items (vec_capacity self.old.made) self.old.unmet.items (vec_capacity self.old.unmet) }
+        requires room { HasRoom (option_map (λ l. l.now) item) self.old.made.items (vec_capacity self.old.made) self.old.unmet.items (vec_capacity self.old.unmet) }
         ensures finishes { Finishes result (noted (notes_of self.old) (option_map (λ l. l.now) item.entry) answer.now (seen self.old.node).effects).met answer.now (printed answer.now (seen self.old.node).effects) (K.contents sink.old) (K.contents sink.new) }
         ensures noted { result ≡ None → notes_of self.new ≡ noted (notes_of self.old) (option_map (λ l. l.now) item.entry) answer.now (seen self.old.node).effects }
         ensures node { (seen self.new.node ≡ seen self.old.node) × (self.new.node.role ≡ self.old.node.role) }
