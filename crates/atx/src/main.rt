@@ -7,6 +7,7 @@ mod words;
 use crate::standard_streams::{Reading, Writing};
 use crate::words::behind_name;
 use atx_sites::node_site::NodeSite;
+use command_line::help::heard;
 use command_line::run::{NO_JOB, NO_MEMORY, run};
 use real_system::real_system::RealSystem;
 use std::env;
@@ -20,6 +21,9 @@ fn main(rt: HostRuntime) -> ExitCode {
         Err(_) => return ExitCode::from(NO_JOB),
     };
     let Ok(words) = behind_name(rt.alloc(), args) else {
+        return ExitCode::from(NO_MEMORY);
+    };
+    let Ok(words) = heard(rt.alloc(), words) else {
         return ExitCode::from(NO_MEMORY);
     };
     let mut source = Reading::new(rt.stdin());

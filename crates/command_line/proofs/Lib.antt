@@ -1,4 +1,5 @@
 mod Addresses
+mod Asking
 mod Bases
 mod Examples
 mod Summaries

@@ -2,6 +2,7 @@
 #![tactic(auto)]
 
 mod commands;
+pub mod help;
 mod job;
 mod make;
 mod node;

@@ -316,7 +316,7 @@ const FAULTY: &[(&str, &str)] = &[
         "error: unrecognized subcommand ''\n\nUsage: atx <COMMAND>\n",
     ),
     (
-        "help",
+        "help check cell",
         "error: unrecognized subcommand 'help'\n\nUsage: atx <COMMAND>\n",
     ),
     (
@@ -415,6 +415,8 @@ const QUESTIONS: &[(&str, &str)] = &[
     ("--help", HELP),
     ("-h cell", HELP),
     ("check --help", CHECK_HELP),
+    ("help", HELP),
+    ("help check", CHECK_HELP),
 ];
 
 #[test]
