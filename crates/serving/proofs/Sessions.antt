@@ -330,6 +330,28 @@ pub waited_within : (waited later : ℕ) → (later ≡ 0) ⊎ ((later ≡ waite
 waited_within waited later (inl is) = omega (arith, is)
 waited_within waited later (inr (is, fits)) = fits
 
+-- a line of those that are left
+module _ {S : Type 0} (told : S → Told) (role : Role) (all : List Item) (n : State) (s : S) (turns : ℕ) (line : InitiatorLine) (rest behind : List InitiatorLine)
+    (notes later : Notes) (m k : State) (t u : S) (x y z : Option (List ℕ)) where
+  abbrev first_left : rest ≡ line ∷ behind → SoFar told role all (all_items rest turns) notes n m s t x y → SoFar told role all (Some line ∷ all_items behind turns) notes n m s t x y
+  first_left e h = subst (λ v. SoFar told role all (all_items v turns) notes n m s t x y) e h
+
+  pub so_far_line : (over : List InitiatorLine) (other : Role) → other ≡ role → (result : Option Ended) → result ≡ None → rest ≡ line ∷ behind
+      → over ≡ (if later.waited == 0 then behind else rest) → SoFar told role all (all_items rest turns) notes n m s t x y
+      → Takes told other (Some line) result notes later m k t u y z → SoFar told role all (all_items over turns) later n k s u x z
+  so_far_line over other same result is e f h took =
+      subst (λ v. SoFar told role all v later n k s u x z) (left_as later.waited line rest behind over turns e f)
+      (so_far_more told role all n s (Some line) (all_items behind turns) notes later m k t u x y z other same result is (first_left e h) took)
+
+  pub so_far_stop_line : (other : Role) → other ≡ role → (result : Option Ended) (ended : Ended) → result ≡ Some ended → rest ≡ line ∷ behind
+      → SoFar told role all (all_items rest turns) notes n m s t x y → Takes told other (Some line) result notes later m k t u y z → Prints (Attends told role all n s u) ended x z
+  so_far_stop_line other same result ended is e h took =
+      so_far_stop told role all n s u (Some line) (all_items behind turns) notes later m k t x y z other same result ended is (first_left e h) took
+
+  pub line_waits : (other : Role) → other ≡ role → (result : Option Ended) → result ≡ None → Takes told other (Some line) result notes later m k t u y z → notes.waited < 2 ^ 64 - 1
+      → (later.waited ≡ 0) ⊎ ((later.waited ≡ notes.waited + 1) × (later.waited < 2 ^ 64 - 1))
+  line_waits other same result is took less = waits_on told role all n s (Some line) (all_items behind turns) notes later m k t u x y z other same result is took less
+
 -- turn after turn
 next_turn : (turn turns : ℕ) → turn < turns → ◌≡◌ {A = List Item} (replicate (turns - turn) None) (None ∷ replicate (turns - (turn + 1)) None)
 next_turn turn turns less =
