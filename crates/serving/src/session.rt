@@ -178,7 +178,9 @@ impl Session {
         ensures others { (self.new.met ≡ self.old.met) × (self.new.waited ≡ self.old.waited) }
     {
         match item {
-            Some(InitiatorLine::Begin { .. } | InitiatorLine::Interpose { .. }) => self.make(answer),
+            Some(InitiatorLine::Begin { .. } | InitiatorLine::Interpose { .. }) => self.make(
+                answer,
+            ),
             Some(InitiatorLine::Work { activity, .. }) => self.lack(*activity, answer),
             Some(_) => {}
             None => {}

@@ -31,10 +31,10 @@ loop-line-preserved g c = (
   c.take.ensures.role ∙ c.loop-line.invariant.2,
   omega (arith, c.take.ensures.later, c.loop-line.invariant.3),
   waited_within c.loop-line.self.waited c.take.new.self.waited
-  (line_waits g.H.Site.told c.args.self.now.node.role (all_items c.args.lines.now c.args.turns) (seen c.args.self.now.node) c.args.site.now c.args.turns
-  c.in-Some.line.now c.loop-line.rest.now c.in-Some.behind.now (notes_of c.loop-line.self) (notes_of c.take.new.self) (seen c.loop-line.self.node) (seen c.take.new.self.node)
-  c.loop-line.site c.take.new.site (g.K.Sink.contents c.args.sink.now) _ _ c.loop-line.self.node.role c.loop-line.invariant.2 c.take.result c.in-None.is c.take.ensures.takes
-  c.loop-line.invariant.4),
+      (line_waits g.H.Site.told c.args.self.now.node.role (all_items c.args.lines.now c.args.turns) (seen c.args.self.now.node) c.args.site.now c.args.turns
+      c.in-Some.line.now c.loop-line.rest.now c.in-Some.behind.now (notes_of c.loop-line.self) (notes_of c.take.new.self) (seen c.loop-line.self.node) (seen c.take.new.self.node)
+      c.loop-line.site c.take.new.site (g.K.Sink.contents c.args.sink.now) _ _ c.loop-line.self.node.role c.loop-line.invariant.2 c.take.result c.in-None.is c.take.ensures.takes
+      c.loop-line.invariant.4),
 )
 
 pub returns-in-Some-take-2-clause-attends : goal.returns-in-Some-take-2-clause-attends
@@ -52,8 +52,8 @@ loop-preserved g c = (
   c.take-in-loop.ensures.role ∙ c.loop.invariant.2,
   omega (arith, c.take-in-loop.ensures.later, c.loop.invariant.3),
   turn_waits g.H.Site.told c.args.self.now.node.role (all_items c.args.lines.now c.args.turns) (seen c.args.self.now.node) c.args.site.now c.loop.counter c.args.turns
-  c.loop-test.true (notes_of c.loop.self) (notes_of c.take-in-loop.new.self) (seen c.loop.self.node) (seen c.take-in-loop.new.self.node) c.loop.site c.take-in-loop.new.site
-  (g.K.Sink.contents c.args.sink.now) _ _ c.loop.self.node.role c.loop.invariant.2 c.take-in-loop.result c.in-None-take.is c.take-in-loop.ensures.takes,
+      c.loop-test.true (notes_of c.loop.self) (notes_of c.take-in-loop.new.self) (seen c.loop.self.node) (seen c.take-in-loop.new.self.node) c.loop.site c.take-in-loop.new.site
+      (g.K.Sink.contents c.args.sink.now) _ _ c.loop.self.node.role c.loop.invariant.2 c.take-in-loop.result c.in-None-take.is c.take-in-loop.ensures.takes,
 )
 
 pub returns-clause-attends : goal.returns-clause-attends
