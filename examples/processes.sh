@@ -23,8 +23,8 @@ start() {
   exit 1
 }
 
-# `begin ROLE PORT TURNS` starts a node, as `start` does.
-begin() { start "$1" "$top/atx" "$1" --listen "127.0.0.1:$2" --journal "$room/$1" --turns "$3"; }
+# `begin ROLE PORT [TURNS]` starts a node, as `start` does.
+begin() { start "$1" "$top/atx" "$1" --listen "127.0.0.1:$2" --journal "$room/$1" ${3:+--turns "$3"}; }
 
 # `kills NAME` ends a process by signal 9.
 kills() { { kill -9 "${!1}"; wait "${!1}"; } 2>/dev/null; }
