@@ -1,6 +1,5 @@
 -- A node that serves attaches nothing.
 use Rattle.std.proofs.Common.{ℕ, List, [], ◌∷◌, Option, ◌≡◌, inl, inr, refl, ◌∙◌, ap, append-nil}
-use Rattle.at_base.specs.Numbers.{Numbers}
 use Rattle.journal_at.specs.StandingBodies.{Counted}
 use Rattle.node_at.specs.Endings.{Ends}
 use Rattle.node_at.specs.State.{State}

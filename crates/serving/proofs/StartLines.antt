@@ -1,5 +1,5 @@
 -- What is printed before the lines, and where there are none.
-use Rattle.std.proofs.Common.{ℕ, List, [], ◌∷◌, ◌++◌, ◌≡◌, ◌≤◌, ◌<◌, ◌⊎◌, ◌+◌, take, length, Option, Some, None, Ok, Err, Result, inl, inr, sym, ◌∙◌, subst, arith, refl}
+use Rattle.std.proofs.Common.{ℕ, List, [], ◌∷◌, ◌++◌, ◌≡◌, ◌≤◌, ◌<◌, ◌⊎◌, ◌+◌, take, length, Option, Some, None, Ok, Err, Result, inl, inr, sym, ◌∙◌, subst, arith}
 use Rattle.std.specs.Io.KnownBytes.{Appends}
 use Rattle.node_at.specs.StartedNodes.{IsStarted}
 use Rattle.node_at.specs.Starts.{CannotStart}

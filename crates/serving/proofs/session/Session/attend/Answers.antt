@@ -2,7 +2,7 @@ use Rattle.std.proofs.Common.{refl, ◌∙◌, arith}
 use Rattle.node_at.specs.State.{seen}
 use Rattle.serving.specs.Runs.{all_items}
 use Rattle.serving.specs.Sessions.{notes_of}
-use Rattle.serving.proofs.Sessions.{done_sinks, failed_later, first_notes, line_waits, shrinks, so_far_begin, so_far_done, so_far_end, so_far_line, so_far_lines, so_far_stop_line, so_far_stop_turn, so_far_turn, turn_waits, waited_within}
+use Rattle.serving.proofs.Sessions.{first_notes, line_waits, so_far_begin, so_far_done, so_far_end, so_far_line, so_far_stop_line, so_far_stop_turn, so_far_turn, turn_waits, waited_within}
 use Rattle.serving.proofs.session.Session.attend.Goals as goal
 
 pub loop-line-init : goal.loop-line-init
