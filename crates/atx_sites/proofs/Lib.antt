@@ -1,4 +1,11 @@
+pub mod Afterwards
 pub mod Attachings
+pub mod Comings
+pub mod DepartureLists
 pub mod FilePieces
+pub mod Leavings
+pub mod Pushes
 pub mod Receipts
+pub mod Sendings
 pub mod SilentMachines
+pub mod Turns

@@ -1,3 +1,5 @@
+pub mod Arrivals
+pub mod Departures
 pub mod Disks
 pub mod FileCalls
 pub mod Files

@@ -1,16 +1,45 @@
 -- Which calls of the system a machine makes on its listener and its connections.
-use Rattle.std.specs.Prelude.{ℕ, List, Option, Some, None, Result, Ok, Err, false, ◌≡◌}
-use Rattle.system_calls.specs.Calls.{Calls, Number, then}
-use Rattle.system_calls.specs.Calls.Call.{Listen, Blocks}
+use Rattle.std.specs.Prelude.{ℕ, List, Option, Some, None, Result, Ok, Err, [], ◌++◌, ◌≡◌, ◌+◌, drop}
+use Rattle.std.specs.declared.io.Error.{Error}
+use Rattle.std.specs.declared.net.SocketAddr.{SocketAddr}
+use Rattle.system_calls.specs.Calls.{Call, Calls, Number, then}
+use Rattle.system_calls.specs.Calls.Call.{Accept, Listen, Read, Write}
 
 abbrev pub number_at : {L : Type 0} → (L → Number) → Option L → Number
 number_at number (Some listener) = number listener
 number_at number None = None
 
--- it listens at that address, and accepting never waits
+-- it listens at that address
 abbrev pub Listens : List ℕ → Number → Calls → Calls → Type 0
-Listens address listener old new = new ≡ then (Blocks listener false (Ok tt)) (then (Listen address (Ok listener)) old)
+Listens address listener old new = new ≡ then (Listen address (Ok listener)) old
 
 abbrev pub IfListens : {E : Type 0} → List ℕ → Result (Unit {0}) E → Number → Calls → Calls → Type 0
 IfListens address (Ok done) listener old new = Listens address listener old new
 IfListens address (Err fault) listener old new = Unit {0}
+
+-- some calls more, of any kind
+pub data Later (old : Calls) : Calls → Type 0 where
+  none : {new : Calls} → new ≡ old → Later old new
+  more : {mid new : Calls} (call : Call) → Later old mid → new ≡ then call mid → Later old new
+
+-- a connection that accept on the listener gave, and the bytes that reads of it gave since, in order, each once. Other calls may
+-- stand between
+pub data Came (listener stream : Number) : List ℕ → Calls → Type 0 where
+  accepted : {bytes : List ℕ} {new : Calls} (mid : Calls) (address : SocketAddr) → bytes ≡ [] → new ≡ then (Accept listener (Ok (stream, address))) mid
+      → Came listener stream bytes new
+  read : {front bytes : List ℕ} {mid new : Calls} (got : List ℕ) → Came listener stream front mid → bytes ≡ front ++ got
+      → new ≡ then (Read stream (Ok got)) mid → Came listener stream bytes new
+  beside : {bytes : List ℕ} {mid new : Calls} (call : Call) → Came listener stream bytes mid → new ≡ then call mid → Came listener stream bytes new
+
+-- so many of the bytes were taken: each write on the connection is of all that those before it didn't take, and no other call is made
+pub data Sending (stream : Number) (bytes : List ℕ) (old : Calls) : ℕ → Calls → Type 0 where
+  none : {k : ℕ} {new : Calls} → k ≡ 0 → new ≡ old → Sending stream bytes old k new
+  took : {k j : ℕ} {mid new : Calls} (m : ℕ) → Sending stream bytes old k mid → j ≡ k + m
+      → new ≡ then (Write stream (drop k bytes) (Ok m)) mid → Sending stream bytes old j new
+  failed : {k : ℕ} {mid new : Calls} (fault : Error) → Sending stream bytes old k mid
+      → new ≡ then (Write stream (drop k bytes) (Err fault)) mid → Sending stream bytes old k new
+
+-- so many were taken, or some
+abbrev pub Sends : {E : Type 0} → Number → List ℕ → Result ℕ E → Calls → Calls → Type 0
+Sends stream bytes (Ok n) old new = Sending stream bytes old n new
+Sends stream bytes (Err fault) old new = (k : ℕ) × Sending stream bytes old k new

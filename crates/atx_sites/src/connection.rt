@@ -1,89 +1,50 @@
-//! The listener of a node, and the connection that is served.
+//! The listener of a node, the connections that are read aside, and the one that is served.
 
-ghost use Rattle.std.specs.Prelude.{◌≡◌, None, IsErr};
-ghost use Rattle.std.specs.Io.{ReadsAtMost};
-ghost use Rattle.atx_sites.specs.LinkCalls.{IfListens, number_at};
+ghost use Rattle.std.specs.Prelude.{◌≡◌, ◌≤◌, ◌<◌, ◌+◌, ◌++◌, ◌^◌, None, IfOk, IsErr, OnErr, OnOk, drop, length, take};
+ghost use Rattle.std.specs.Io.{ReadsAtMost, WritesAtMost};
+ghost use Rattle.system_calls.specs.Calls.{Number};
+ghost use Rattle.atx_sites.specs.Arrivals.{ConnectionCame, Gives, HasCome, HaveCome, Keeps, KeepsOn, ServedCame};
+ghost use Rattle.atx_sites.specs.LinkCalls.{IfListens, Later, Sends, number_at};
 
-use crate::deadlines::{in_seconds, left, write_by};
-use crate::idle_connections::{Idle, wait};
+use crate::arriving::{Arriving, Rest, read_on};
+use crate::deadlines::{earlier, millis_until};
+use crate::departures::{self, Departures};
+use crate::waiting::{Waiting, accept_all, read_found};
+use libc::types::pollfd;
+use std::alloc::{AllocError, Global};
 use std::io::{self, ErrorKind};
 use std::os::fd::AsRawFd;
 use std::time::Duration;
 use system_calls::system::System;
 
-/// The seconds in which a whole request must come, from the connection's turn on.
-const REQUEST_SECONDS: u64 = 10;
-
-/// The seconds in which the system must take a piece of an answer.
-const ANSWER_SECONDS: u64 = 5;
-
-/// The seconds for which what a peer still sends is read away, where some was left unread.
-const LINGER_SECONDS: u64 = 1;
-
-/// A connection, and the time at which it has been read for long enough.
+/// A connection that is served: what was read of it, how much of that was given, what of the answer the system hasn't taken,
+/// and whether some of the answer was lost.
 #[derive(Drop)]
 pub struct Served<C> {
-    pub(crate) stream: C,
-    ends: Duration,
+    arriving: Arriving<C>,
+    given: usize,
+    unsent: Vec<u8>,
+    is_cut: bool,
 }
 
-/// A listener, and the connection that is served. Connections are served one after another.
+/// A listener, the connections that are read aside, and the one that is served. Connections are served one after another.
 #[derive(Drop)]
 pub struct Connection<L, C> {
+    alloc: Global,
     pub(crate) listener: Option<L>,
     pub(crate) served: Option<Served<C>>,
-    idle: Idle<C>,
-}
-
-/// Reads, and says how many bytes, before the connection's time ends.
-fn read<S: System>(system: &mut S, served: &Served<S::Stream>, buf: &mut [u8]) -> io::Result<usize>
-    ensures { ReadsAtMost result buf.new }
-{
-    'tries: for _ in 0..u16::MAX {
-        let within = left(system, served.ends)?;
-        system.read_within(&served.stream, within)?;
-        match system.read(&served.stream, buf) {
-            Ok(n) => return Ok(n),
-            Err(fault) if fault.kind() == ErrorKind::Interrupted => {}
-            Err(fault) => return Err(fault),
-        }
-    }
-    Err(ErrorKind::Interrupted.into())
-}
-
-/// Reads away what the peer still sends, for a second.
-fn drain<S: System>(system: &mut S, served: &mut Served<S::Stream>) -> io::Result<()> {
-    let mut buf = [0u8; 4096];
-    served.ends = in_seconds(system, LINGER_SECONDS)?;
-    for _ in 0..u16::MAX {
-        if read(system, served, &mut buf)? == 0 {
-            return Ok(());
-        }
-    }
-    Ok(())
-}
-
-/// Ends the connection. Bytes that are unread when a stream is closed reset it, and the peer might lose the answer: where
-/// some are there, they are read away first.
-fn end<S: System>(system: &mut S, mut served: Served<S::Stream>) -> io::Result<()> {
-    let mut buf = [0u8; 4096];
-    system.shut_down(&served.stream)?;
-    system.stream_blocks(&served.stream, false)?;
-    if system.read(&served.stream, &mut buf)? == 0 {
-        return Ok(());
-    }
-    system.stream_blocks(&served.stream, true)?;
-    drain(system, &mut served)
+    waiting: Waiting<C>,
 }
 
 impl<L: Drop, C: AsRawFd + Drop> Connection<L, C> {
-    pub(crate) fn new() -> Connection<L, C>
+    pub(crate) fn new(alloc: Global) -> Connection<L, C>
         ensures { (result.listener ≡ None) × (result.served ≡ None) }
     {
         Connection {
+            alloc,
             listener: None,
             served: None,
-            idle: Idle::new(),
+            waiting: Waiting::new(alloc),
         }
     }
 }
@@ -94,70 +55,346 @@ pub(crate) fn listen<S: System>(
     connection: &mut Connection<S::Listener, S::Stream>,
     address: &str,
 ) -> io::Result<()>
-    ensures { IfListens address.now result (number_at S.Listener.raw_fd connection.new.listener) (S.calls system.old) (S.calls system.new) }
+    ensures calls { IfListens address.now result (number_at S.Listener.raw_fd connection.new.listener) (S.calls system.old) (S.calls system.new) }
+    ensures came { ConnectionCame S.Stream.raw_fd S.Listener.raw_fd (S.calls system.new) connection.new }
 {
     connection.listener = None;
     connection.served = None;
-    connection.idle = Idle::new();
-    let listener = system.listen(address)?;
-    system.listener_blocks(&listener, false)?;
-    connection.listener = Some(listener);
+    let Ok(()) = connection.waiting.begin() else {
+        return Err(ErrorKind::OutOfMemory.into());
+    };
+    match system.listen(address) {
+        Ok(listener) => {
+            connection.listener = Some(listener);
+            Ok(())
+        }
+        Err(fault) => Err(fault),
+    }
+}
+
+/// What the system is to wait for: first of the listener, then of those that are read aside, and then of what leaves. Says
+/// how many are behind the listener and before what leaves.
+fn asked_of<L: AsRawFd, C: AsRawFd + Drop>(
+    listener: &L,
+    waiting: &Waiting<C>,
+    departures: &Departures<C>,
+    asks: &mut Vec<pollfd>,
+) -> Result<usize, AllocError> {
+    waiting.asks(listener.as_raw_fd(), asks)?;
+    let arriving = asks.len();
+    departures.asks(asks)?;
+    Ok(arriving)
+}
+
+/// Does what poll found: connections are accepted and read aside.
+#[tactic(auto, using(crate::proofs::Comings::later_still))]
+fn go_on<S: System>(
+    system: &mut S,
+    waiting: &mut Waiting<S::Stream>,
+    listener: &S::Listener,
+    found: &[pollfd],
+    now: Duration,
+) -> io::Result<()>
+    ensures came { HaveCome S.Stream.raw_fd (S.Listener.raw_fd listener.now) (S.calls system.old) waiting.old.arriving.items → HaveCome S.Stream.raw_fd (S.Listener.raw_fd listener.now) (S.calls system.new) waiting.new.arriving.items }
+    ensures later { Later (S.calls system.old) (S.calls system.new) }
+{
+    let Some((first, others)) = found.split_first() else {
+        return Ok(());
+    };
+    read_found(system, waiting, others);
+    if first.revents != 0 || waiting.may_go_on(now) {
+        return accept_all(system, waiting, listener, now);
+    }
     Ok(())
 }
 
-/// Waits for a connection that has something to read, or has ended. One that is still open is closed.
+/// Waits until something can be done, or a time is over, and does it. Where the turn of one may come, nothing is waited for.
+#[tactic(auto, using(crate::proofs::Comings::as_late, crate::proofs::Comings::late_by, crate::proofs::Comings::later_still, crate::proofs::Comings::have_still))]
+fn wait_once<S: System>(
+    system: &mut S,
+    waiting: &mut Waiting<S::Stream>,
+    departures: &Departures<S::Stream>,
+    listener: &S::Listener,
+    now: Duration,
+    until: Option<Duration>,
+) -> io::Result<()>
+    ensures came { HaveCome S.Stream.raw_fd (S.Listener.raw_fd listener.now) (S.calls system.old) waiting.old.arriving.items → HaveCome S.Stream.raw_fd (S.Listener.raw_fd listener.now) (S.calls system.new) waiting.new.arriving.items }
+    ensures later { Later (S.calls system.old) (S.calls system.new) }
+{
+    let mut asks = Vec::new(waiting.alloc());
+    let Ok(arriving) = asked_of(listener, waiting, departures, &mut asks) else {
+        return Err(ErrorKind::OutOfMemory.into());
+    };
+    let until = if waiting.has_ready(now) {
+        Some(now)
+    } else {
+        earlier(until, earlier(waiting.earliest(), departures.earliest()))
+    };
+    system.poll(asks.as_mut_slice(), millis_until(now, until));
+    match system.monotonic() {
+        Ok(later) => {
+            let found = &asks[..arriving.min(asks.len())];
+            go_on(system, waiting, listener, found, later)
+        }
+        Err(fault) => Err(fault),
+    }
+}
+
+/// The time. What leaves goes on by it.
+fn advance<S: System>(
+    system: &mut S,
+    departures: &mut Departures<S::Stream>,
+) -> io::Result<Duration>
+    ensures later { Later (S.calls system.old) (S.calls system.new) }
+{
+    match system.monotonic() {
+        Ok(now) => {
+            departures::advance(system, departures, now);
+            Ok(now)
+        }
+        Err(fault) => Err(fault),
+    }
+}
+
+/// When a wait is over that began now, unless it began before.
+fn begun(until: Option<Duration>, every: Option<Duration>, now: Duration) -> Option<Duration> {
+    match (until, every) {
+        (None, Some(every)) => Some(now.saturating_add(every)),
+        (until, _) => until,
+    }
+}
+
+fn is_over(until: Option<Duration>, now: Duration) -> bool {
+    match until {
+        Some(until) => now >= until,
+        None => false,
+    }
+}
+
+/// Waits for a connection whose turn may come, for so long where a time is given. Meanwhile what leaves goes on.
+#[tactic(auto, using(crate::proofs::Comings::as_late, crate::proofs::Comings::later_still, crate::proofs::Comings::have_still))]
+fn wait<S: System>(
+    system: &mut S,
+    waiting: &mut Waiting<S::Stream>,
+    departures: &mut Departures<S::Stream>,
+    listener: &S::Listener,
+    every: Option<Duration>,
+) -> io::Result<Arriving<S::Stream>>
+    ensures came { HaveCome S.Stream.raw_fd (S.Listener.raw_fd listener.now) (S.calls system.old) waiting.old.arriving.items → HaveCome S.Stream.raw_fd (S.Listener.raw_fd listener.now) (S.calls system.new) waiting.new.arriving.items }
+    ensures later { Later (S.calls system.old) (S.calls system.new) }
+    ensures taken { HaveCome S.Stream.raw_fd (S.Listener.raw_fd listener.now) (S.calls system.old) waiting.old.arriving.items → IfOk result (HasCome S.Stream.raw_fd (S.Listener.raw_fd listener.now) (S.calls system.new)) }
+{
+    let mut until = None;
+    'waits: for _ in 0..u64::MAX {
+        let now = match advance(system, departures) {
+            Ok(now) => now,
+            Err(fault) => return Err(fault),
+        };
+        until = begun(until, every, now);
+        if let Err(fault) = wait_once(system, waiting, departures, listener, now, until) {
+            return Err(fault);
+        }
+        if let Some(ready) = waiting.ready(now) {
+            return Ok(ready);
+        }
+        if is_over(until, now) {
+            return Err(ErrorKind::TimedOut.into());
+        }
+    }
+    Err(ErrorKind::TimedOut.into())
+}
+
+/// Waits for a connection whose turn may come: its whole request is there, it ended or failed, or its time is over. One that
+/// is still open is closed. Where none comes for as long as `every` says, none is open behind it.
 pub(crate) fn take<S: System>(
     system: &mut S,
     connection: &mut Connection<S::Listener, S::Stream>,
+    departures: &mut Departures<S::Stream>,
+    every: Option<Duration>,
 ) -> io::Result<()>
     ensures shut { connection.old.listener ≡ None → IsErr result }
+    ensures came { ConnectionCame S.Stream.raw_fd S.Listener.raw_fd (S.calls system.old) connection.old → ConnectionCame S.Stream.raw_fd S.Listener.raw_fd (S.calls system.new) connection.new }
 {
-    close(system, connection);
+    close(system, connection, departures);
     let Some(listener) = &connection.listener else {
         return Err(ErrorKind::NotConnected.into());
     };
-    let stream = wait(system, &mut connection.idle, listener)?;
-    let ends = in_seconds(system, REQUEST_SECONDS)?;
-    connection.served = Some(Served { stream, ends });
-    Ok(())
+    match wait(system, &mut connection.waiting, departures, listener, every) {
+        Ok(arriving) => {
+            connection.served = Some(Served {
+                arriving,
+                given: 0,
+                unsent: Vec::new(connection.alloc),
+                is_cut: false,
+            });
+            Ok(())
+        }
+        Err(fault) if every.is_some() && fault.kind() == ErrorKind::TimedOut => Ok(()),
+        Err(fault) => Err(fault),
+    }
 }
 
-/// Reads from the connection that is open, and says how many bytes.
+/// Gives bytes from a place on, as many as the buffer takes, and says how many.
+fn give(bytes: &[u8], from: usize, buf: &mut [u8]) -> usize
+    ensures bound { result ≤ length buf.new }
+    ensures bytes { take result buf.new ≡ take result (drop from bytes.now) }
+    ensures fits { from + result < 2 ^ 64 }
+{
+    if from >= bytes.len() {
+        return 0;
+    }
+    let n = (bytes.len() - from).min(buf.len());
+    buf[..n].copy_from_slice(&bytes[from..from + n]);
+    n
+}
+
+/// Reads from the connection that is open, and says how many bytes: first those that were read aside.
 pub(crate) fn receive<S: System>(
     system: &mut S,
-    connection: &Connection<S::Listener, S::Stream>,
+    connection: &mut Connection<S::Listener, S::Stream>,
     buf: &mut [u8],
 ) -> io::Result<usize>
     ensures bound { ReadsAtMost result buf.new }
-    ensures shut { connection.now.served ≡ None → IsErr result }
+    ensures shut { connection.old.served ≡ None → IsErr result }
+    ensures gives { Gives buf.new result connection.old.served connection.new.served }
+    ensures came { (listener : Number) → ServedCame S.Stream.raw_fd listener (S.calls system.old) connection.old.served → ServedCame S.Stream.raw_fd listener (S.calls system.new) connection.new.served }
+    ensures same { (connection.new.listener ≡ connection.old.listener) × (connection.new.waiting ≡ connection.old.waiting) }
+    ensures later { Later (S.calls system.old) (S.calls system.new) }
 {
-    match &connection.served {
-        Some(served) => read(system, served, buf),
-        None => Err(ErrorKind::NotConnected.into()),
-    }
-}
-
-/// Sends bytes on the connection that is open. After Ok the system has them all.
-pub(crate) fn send<S: System>(
-    system: &mut S,
-    connection: &Connection<S::Listener, S::Stream>,
-    bytes: &[u8],
-) -> io::Result<()>
-    ensures shut { connection.now.served ≡ None → IsErr result }
-{
-    let Some(served) = &connection.served else {
+    let Some(served) = &mut connection.served else {
         return Err(ErrorKind::NotConnected.into());
     };
-    let ends = in_seconds(system, ANSWER_SECONDS)?;
-    write_by(system, &served.stream, bytes, ends)
+    let given = served.given;
+    if let Err(fault) = read_on(system, &mut served.arriving, given) {
+        return Err(fault);
+    }
+    let n = give(served.arriving.bytes.as_slice(), given, buf);
+    if n == 0 && served.arriving.rest == Rest::Failed {
+        return Err(ErrorKind::ConnectionReset.into());
+    }
+    served.given = given + n;
+    Ok(n)
 }
 
-/// Closes the connection that is open, if one is.
-pub(crate) fn close<S: System>(system: &mut S, connection: &mut Connection<S::Listener, S::Stream>)
+/// Hands bytes to the system until it takes no more, and says how many it took.
+#[tactic(auto, using(crate::proofs::Sendings::unsent, crate::proofs::Sendings::sent_more, crate::proofs::Sendings::sent_none, crate::proofs::Sendings::some_sent, crate::proofs::FilePieces::within))]
+fn write_some<S: System>(system: &mut S, stream: &S::Stream, bytes: &[u8]) -> io::Result<usize>
+    ensures bound { WritesAtMost result bytes.now }
+    ensures calls { Sends (S.Stream.raw_fd stream.now) bytes.now result (S.calls system.old) (S.calls system.new) }
+{
+    let mut done = 0;
+    'pieces: for _ in 0..u32::MAX {
+        if done >= bytes.len() {
+            return Ok(done);
+        }
+        match system.write(stream, &bytes[done..]) {
+            Ok(0) => return Err(ErrorKind::WriteZero.into()),
+            Ok(n) => done += n,
+            Err(fault) if fault.kind() == ErrorKind::Interrupted => {}
+            Err(fault) if fault.kind() == ErrorKind::WouldBlock => return Ok(done),
+            Err(fault) => return Err(fault),
+        }
+    }
+    Ok(done)
+}
+
+/// Keeps bytes that are to go out.
+fn keep<C>(served: &mut Served<C>, bytes: &[u8]) -> io::Result<()>
+    ensures ok { OnOk result (served.new.unsent.items ≡ served.old.unsent.items ++ bytes.now) }
+    ensures err { OnErr result (served.new.unsent.items ≡ served.old.unsent.items) }
+    ensures same { served.new.arriving ≡ served.old.arriving }
+{
+    match served.unsent.extend_from_slice(bytes) {
+        Ok(()) => Ok(()),
+        Err(AllocError) => Err(ErrorKind::OutOfMemory.into()),
+    }
+}
+
+/// Hands bytes to the system, where it took all before them, and keeps those that it doesn't take.
+fn write_or_keep<S: System>(
+    system: &mut S,
+    served: &mut Served<S::Stream>,
+    bytes: &[u8],
+) -> io::Result<()>
+    ensures kept { Keeps S.Stream.raw_fd bytes.now result served.old served.new (S.calls system.old) (S.calls system.new) }
+{
+    if !served.unsent.is_empty() {
+        return keep(served, bytes);
+    }
+    match write_some(system, &served.arriving.stream, bytes) {
+        Ok(done) => keep(served, &bytes[done..]),
+        Err(fault) => Err(fault),
+    }
+}
+
+/// Sends bytes on the connection that is open. What the system doesn't take at once is kept, and goes out behind the turn.
+/// Behind a failure nothing more is sent.
+pub(crate) fn send<S: System>(
+    system: &mut S,
+    connection: &mut Connection<S::Listener, S::Stream>,
+    bytes: &[u8],
+) -> io::Result<()>
+    ensures shut { connection.old.served ≡ None → IsErr result }
+    ensures kept { KeepsOn S.Stream.raw_fd bytes.now result connection.old.served connection.new.served (S.calls system.old) (S.calls system.new) }
+    ensures same { (connection.new.listener ≡ connection.old.listener) × (connection.new.waiting ≡ connection.old.waiting) }
+{
+    let Some(served) = &mut connection.served else {
+        return Err(ErrorKind::NotConnected.into());
+    };
+    if served.is_cut {
+        return Err(ErrorKind::BrokenPipe.into());
+    }
+    let sent = write_or_keep(system, served, bytes);
+    served.is_cut = sent.is_err();
+    sent
+}
+
+/// Hands over a connection, whose answer goes out behind this call.
+fn end<S: System>(system: &mut S, departures: &mut Departures<S::Stream>, served: Served<S::Stream>)
+    ensures later { Later (S.calls system.old) (S.calls system.new) }
+{
+    let Served {
+        arriving,
+        unsent,
+        ..
+    } = served;
+    let Arriving { stream, .. } = arriving;
+    departures::answer(system, departures, stream, unsent, 0);
+}
+
+/// Closes the connection that is open, if one is: what is left of the answer goes out behind this call.
+pub(crate) fn close<S: System>(
+    system: &mut S,
+    connection: &mut Connection<S::Listener, S::Stream>,
+    departures: &mut Departures<S::Stream>,
+)
     ensures shut { connection.new.served ≡ None }
-    ensures same { connection.new.listener ≡ connection.old.listener }
+    ensures same { (connection.new.listener ≡ connection.old.listener) × (connection.new.waiting ≡ connection.old.waiting) }
+    ensures later { Later (S.calls system.old) (S.calls system.new) }
 {
     if let Some(served) = connection.served.take() {
-        let _ = end(system, served);
+        end(system, departures, served);
     }
+}
+
+/// Lets go out what still leaves, each until its own time is over.
+pub(crate) fn leave<S: System>(
+    system: &mut S,
+    alloc: Global,
+    departures: &mut Departures<S::Stream>,
+) -> io::Result<()> {
+    for _ in 0..u64::MAX {
+        let now = system.monotonic()?;
+        departures::advance(system, departures, now);
+        if departures.is_empty() {
+            return Ok(());
+        }
+        let mut asks = Vec::new(alloc);
+        departures.asks(&mut asks)?;
+        system.poll(
+            asks.as_mut_slice(),
+            millis_until(now, departures.earliest()),
+        );
+    }
+    Ok(())
 }

@@ -1,47 +1,39 @@
-//! Times that a peer is given, and writing within one.
+//! Times that a peer is given.
+
+ghost use Rattle.atx_sites.specs.LinkCalls.{Later};
 
 use std::io::{self, ErrorKind};
 use std::time::Duration;
 use system_calls::system::System;
 
-/// The time that ends so many seconds from now.
-pub(crate) fn in_seconds<S: System>(system: &mut S, seconds: u64) -> io::Result<Duration> {
-    Ok(
-        system
-            .monotonic()?
-            .saturating_add(Duration::from_secs(seconds)),
-    )
+/// The earlier of two times, where there are any.
+pub(crate) fn earlier(one: Option<Duration>, other: Option<Duration>) -> Option<Duration> {
+    match (one, other) {
+        (Some(one), Some(other)) => Some(one.min(other)),
+        (Some(one), None) => Some(one),
+        (None, other) => other,
+    }
 }
 
-/// What is left of a time. A time that is over is a failure.
-pub(crate) fn left<S: System>(system: &mut S, ends: Duration) -> io::Result<Duration> {
-    let left = ends.saturating_sub(system.monotonic()?);
-    if left.is_zero() {
+/// The milliseconds for which a poll waits until a time, rounded up; without a limit where there is none.
+pub(crate) fn millis_until(now: Duration, time: Option<Duration>) -> i32 {
+    match time {
+        Some(time) => {
+            let nanos = time.saturating_sub(now).as_nanos();
+            i32::try_from(nanos.div_ceil(1_000_000)).unwrap_or(i32::MAX)
+        }
+        None => -1,
+    }
+}
+
+/// What is left of a time, in milliseconds. A time that is over is a failure.
+#[tactic(auto, using(crate::proofs::Comings::late_by))]
+pub(crate) fn left<S: System>(system: &mut S, ends: Duration) -> io::Result<i32>
+    ensures { Later (S.calls system.old) (S.calls system.new) }
+{
+    let now = system.monotonic()?;
+    if now >= ends {
         return Err(ErrorKind::TimedOut.into());
     }
-    Ok(left)
-}
-
-/// Hands all bytes to the system before a time ends. After a failure it has a beginning of them.
-pub(crate) fn write_by<S: System>(
-    system: &mut S,
-    stream: &S::Stream,
-    bytes: &[u8],
-    ends: Duration,
-) -> io::Result<()> {
-    let mut done = 0;
-    'pieces: for _ in 0..u32::MAX {
-        if done >= bytes.len() {
-            return Ok(());
-        }
-        let within = left(system, ends)?;
-        system.write_within(stream, within)?;
-        match system.write(stream, &bytes[done..]) {
-            Ok(0) => return Err(ErrorKind::WriteZero.into()),
-            Ok(n) => done += n,
-            Err(fault) if fault.kind() == ErrorKind::Interrupted => {}
-            Err(fault) => return Err(fault),
-        }
-    }
-    Err(ErrorKind::TimedOut.into())
+    Ok(millis_until(now, Some(ends)))
 }

@@ -1,13 +1,17 @@
 //! A node's machine over the system: its files, its listener and connections, its posts and its clock.
 #![tactic(auto)]
 
+mod arriving;
 pub mod connection;
 mod deadlines;
+pub mod departures;
 pub mod disk;
 mod faults;
 pub mod file_site;
-mod idle_connections;
+mod framing;
 mod names;
 pub mod node_site;
 pub mod open_file;
-mod posts;
+pub mod outgoing;
+pub mod resolved_names;
+pub mod waiting;

@@ -6,6 +6,7 @@ ghost use Rattle.site_model.specs.Counts.{capped};
 ghost use Rattle.site_model.specs.Told.{Files as Files_told, Is, file_of};
 ghost use Rattle.site_model.specs.Told.Call.{Post, Send};
 ghost use Rattle.site_model.specs.declared.site.Taken.TheVariants.{Opened};
+ghost use Rattle.atx_sites.specs.Arrivals.{Gives, KeepsOn};
 ghost use Rattle.atx_sites.specs.Disks.{Tallied, file_at, other_at};
 ghost use Rattle.atx_sites.specs.FileCalls.{Raises, Reads, Sized, Syncs, Writes};
 ghost use Rattle.atx_sites.specs.Files.{is_lost, number_of};
@@ -13,27 +14,31 @@ ghost use Rattle.atx_sites.specs.LinkCalls.{number_at};
 ghost use Rattle.atx_sites.specs.Networks.{Attempted, IfAttached, told_with};
 
 use crate::connection::{self, Connection};
+use crate::departures::{self, Departures};
 use crate::disk::{self, Disk};
 use crate::faults::counted;
-use crate::posts::{self, Posted};
 use site_model::attachments::{Attachments, Given};
 use site_model::site::{AttachFailed, Site, Taken};
 use site_model::source::Failed;
+use std::alloc::Global;
+use std::time::Duration;
 use system_calls::system::System;
 
 /// The machine of a node that serves.
 ///
-/// Connections are taken one after another. A peer has 10 seconds for its whole request from its turn on, and 5 for each
-/// piece of the answer; what it sends past what was read is read away for 1 second, so that it can still read the answer.
-/// Up to 16 connections that sent nothing yet wait without a turn. A post has a connection of its own, with 1 second for
-/// each address of the host to accept, and 5 for its bytes; the answer isn't looked at. No other call waits for a peer, but
-/// the name of a host is looked up without a limit: give nodes by IP addresses, or by names that this machine knows.
+/// Connections are read aside, up to 1,024 at once, and each is taken when its whole request is there, when it ended or failed,
+/// or when 10 seconds are over since it was accepted: a peer that is slow or silent waits alone. What an answer's peer and the
+/// peers of posts don't take at once goes on leaving while other connections are served; they have 5 seconds for that. No
+/// call waits for one peer, but the name of a host is looked up without a limit, at most once in 60 seconds: give nodes by IP
+/// addresses, or by names that this machine knows.
 #[derive(Drop)]
 pub struct NodeSite<S: System + Drop> {
+    alloc: Global,
     system: S,
     disk: Disk<S::File>,
     connection: Connection<S::Listener, S::Stream>,
-    posted: Posted<S::Stream>,
+    departures: Departures<S::Stream>,
+    every: Option<Duration>,
     accept: u64,
     receive: u64,
     link: u64,
@@ -43,23 +48,45 @@ pub struct NodeSite<S: System + Drop> {
 
 impl<S: System + Drop> NodeSite<S> {
     /// No file is open, nothing listens, and nothing failed.
-    pub fn new(system: S) -> NodeSite<S>
+    pub fn new(alloc: Global, system: S) -> NodeSite<S>
         ensures disk { (result.disk.disk ≡ 0) × (result.disk.gate ≡ 0) }
         ensures network { (result.accept ≡ 0) × (result.receive ≡ 0) × (result.link ≡ 0) × (result.taken ≡ 0) }
         ensures shut { (result.connection.listener ≡ None) × (result.connection.served ≡ None) }
         ensures names { result.attached.names ≡ [] }
     {
         NodeSite {
+            alloc,
             system,
             disk: Disk::new(),
-            connection: Connection::new(),
-            posted: Posted::new(),
+            connection: Connection::new(alloc),
+            departures: Departures::new(alloc),
+            every: None,
             accept: 0,
             receive: 0,
             link: 0,
             taken: 0,
             attached: Attachments::new(),
         }
+    }
+
+    /// How many posts were lost behind their calls: the peer didn't accept a connection, or didn't take all bytes in time.
+    pub fn lost(&self) -> u64
+        ensures { result ≡ self.now.departures.lost }
+    {
+        self.departures.lost
+    }
+
+    /// From now on a turn in which nothing comes begins by itself, where no connection's turn came for so many milliseconds.
+    pub fn keep_time(&mut self, millis: u64) {
+        self.every = Some(Duration::from_millis(millis));
+    }
+
+    /// Lets go out what still leaves, each until its own time is over.
+    pub fn leave(&mut self)
+        ensures { self.new.connection.served ≡ None }
+    {
+        connection::close(&mut self.system, &mut self.connection, &mut self.departures);
+        let _ = connection::leave(&mut self.system, self.alloc, &mut self.departures);
     }
 }
 
@@ -153,9 +180,12 @@ impl<S: System + Drop> Site for NodeSite<S> {
         ensures tallied { Tallied self.old.accept self.new.accept result }
         ensures call { Takes result (told_with self.old.disk self.old.accept self.old.receive self.old.link self.old.taken self.old.attached.names) (told_with self.new.disk self.new.accept self.new.receive self.new.link self.new.taken self.new.attached.names) }
     {
-        posts::settle(&mut self.system, &mut self.posted);
-        self.posted.forgive();
-        let opened = connection::take(&mut self.system, &mut self.connection);
+        let opened = connection::take(
+            &mut self.system,
+            &mut self.connection,
+            &mut self.departures,
+            self.every,
+        );
         match counted(&mut self.accept, opened) {
             Ok(()) => {
                 self.taken = self.taken.saturating_add(1);
@@ -169,11 +199,12 @@ impl<S: System + Drop> Site for NodeSite<S> {
         ensures shut { self.old.connection.served ≡ None → IsErr result }
         ensures tallied { Tallied self.old.receive self.new.receive result }
         ensures same_length { length buf.new ≡ length buf.old }
+        ensures gives { Gives buf.new result self.old.connection.served self.new.connection.served }
         ensures call { Received result buf.new (told_with self.old.disk self.old.accept self.old.receive self.old.link self.old.taken self.old.attached.names) (told_with self.new.disk self.new.accept self.new.receive self.new.link self.new.taken self.new.attached.names) }
     {
         counted(
             &mut self.receive,
-            connection::receive(&mut self.system, &self.connection, buf),
+            connection::receive(&mut self.system, &mut self.connection, buf),
         )
     }
 
@@ -181,11 +212,12 @@ impl<S: System + Drop> Site for NodeSite<S> {
     fn send(&mut self, bytes: &[u8]) -> Result<(), Failed>
         ensures shut { self.old.connection.served ≡ None → IsErr result }
         ensures tallied { Tallied self.old.link self.new.link result }
+        ensures kept { KeepsOn S.Stream.raw_fd bytes.now result self.old.connection.served self.new.connection.served (S.calls self.old.system) (S.calls self.new.system) }
         ensures call { Gave (Send bytes.now) result (told_with self.old.disk self.old.accept self.old.receive self.old.link self.old.taken self.old.attached.names) (told_with self.new.disk self.new.accept self.new.receive self.new.link self.new.taken self.new.attached.names) }
     {
         counted(
             &mut self.link,
-            connection::send(&mut self.system, &self.connection, bytes),
+            connection::send(&mut self.system, &mut self.connection, bytes),
         )
     }
 
@@ -194,7 +226,7 @@ impl<S: System + Drop> Site for NodeSite<S> {
         ensures same { (self.new.connection.listener ≡ self.old.connection.listener) × (self.new.disk ≡ self.old.disk) }
         ensures call { Closes (told_with self.old.disk self.old.accept self.old.receive self.old.link self.old.taken self.old.attached.names) (told_with self.new.disk self.new.accept self.new.receive self.new.link self.new.taken self.new.attached.names) }
     {
-        connection::close(&mut self.system, &mut self.connection);
+        connection::close(&mut self.system, &mut self.connection, &mut self.departures);
     }
 
     #[tactic(auto, using(crate::proofs::SilentMachines::gave))]
@@ -202,7 +234,7 @@ impl<S: System + Drop> Site for NodeSite<S> {
         ensures tallied { Tallied self.old.link self.new.link result }
         ensures call { Gave (Post host.now port bytes.now) result (told_with self.old.disk self.old.accept self.old.receive self.old.link self.old.taken self.old.attached.names) (told_with self.new.disk self.new.accept self.new.receive self.new.link self.new.taken self.new.attached.names) }
     {
-        let answer = posts::post(&mut self.system, &mut self.posted, host, port, bytes);
+        let answer = departures::post(&mut self.system, &mut self.departures, host, port, bytes);
         counted(&mut self.link, answer)
     }
 

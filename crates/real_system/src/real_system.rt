@@ -5,9 +5,10 @@ ghost use Rattle.std.specs.Prelude.{None};
 
 use libc::net::poll;
 use libc::types::pollfd;
+use mio::net::{TcpListener, TcpStream};
 use std::fs::{File, OpenOptions};
 use std::io::{self, Read, Write};
-use std::net::{HostAddrs, Net, Shutdown, SocketAddr, TcpListener, TcpStream, ToSocketAddrs};
+use std::net::{self, HostAddrs, Net, Shutdown, SocketAddr, ToSocketAddrs};
 use std::os::fd::AsRawFd;
 use std::os::unix::fs::FileExt;
 use std::rt::{Clock, Files};
@@ -17,21 +18,31 @@ use system_calls::system::{Stat, System};
 /// The system that a program runs on. It keeps nothing, and tells no calls.
 #[derive(Drop)]
 pub struct RealSystem<
-    R: Files<File = File> + Net<Listener = TcpListener, Stream = TcpStream> + Clock + Drop,
+    R: Files<File = File>
+        + Net<Listener = net::TcpListener, Stream = net::TcpStream>
+        + Clock
+        + Drop,
 > {
     rt: R,
 }
 
 impl<
-    R: Files<File = File> + Net<Listener = TcpListener, Stream = TcpStream> + Clock + Drop,
+    R: Files<File = File>
+        + Net<Listener = net::TcpListener, Stream = net::TcpStream>
+        + Clock
+        + Drop,
 > RealSystem<R> {
     pub fn new(rt: R) -> RealSystem<R> {
         RealSystem { rt }
     }
 }
 
-impl<R: Files<File = File> + Net<Listener = TcpListener, Stream = TcpStream> + Clock + Drop> System
-    for RealSystem<R> {
+impl<
+    R: Files<File = File>
+        + Net<Listener = net::TcpListener, Stream = net::TcpStream>
+        + Clock
+        + Drop,
+> System for RealSystem<R> {
     type File = File;
 
     type Listener = TcpListener;
@@ -88,23 +99,28 @@ impl<R: Files<File = File> + Net<Listener = TcpListener, Stream = TcpStream> + C
     }
 
     fn listen(&mut self, address: &str) -> io::Result<TcpListener> {
-        TcpListener::bind(&self.rt, address)
+        let listener = net::TcpListener::bind(&self.rt, address)?;
+        listener.set_nonblocking(true)?;
+        Ok(TcpListener::from_std(listener))
     }
 
-    fn listener_blocks(&mut self, listener: &TcpListener, blocks: bool) -> io::Result<()> {
-        listener.set_nonblocking(!blocks)
-    }
-
-    fn accept(&mut self, listener: &TcpListener) -> io::Result<TcpStream> {
-        Ok(listener.accept()?.0)
+    fn accept(&mut self, listener: &TcpListener) -> io::Result<(TcpStream, SocketAddr)> {
+        listener.accept()
     }
 
     fn resolve(&mut self, host: &str, port: u16) -> io::Result<HostAddrs> {
         (host, port).to_socket_addrs(&self.rt)
     }
 
-    fn connect(&mut self, address: &SocketAddr, within: Duration) -> io::Result<TcpStream> {
-        TcpStream::connect_timeout(&self.rt, address, within)
+    fn connect(&mut self, address: &SocketAddr) -> io::Result<TcpStream> {
+        TcpStream::connect(&self.rt, *address)
+    }
+
+    fn failure(&mut self, stream: &TcpStream) -> io::Result<()> {
+        match stream.take_error()? {
+            Some(fault) => Err(fault),
+            None => Ok(()),
+        }
     }
 
     fn poll(&mut self, asks: &mut [pollfd], millis: i32) -> i32 {
@@ -117,18 +133,6 @@ impl<R: Files<File = File> + Net<Listener = TcpListener, Stream = TcpStream> + C
 
     fn write(&mut self, mut stream: &TcpStream, bytes: &[u8]) -> io::Result<usize> {
         stream.write(bytes)
-    }
-
-    fn read_within(&mut self, stream: &TcpStream, within: Duration) -> io::Result<()> {
-        stream.set_read_timeout(Some(within))
-    }
-
-    fn write_within(&mut self, stream: &TcpStream, within: Duration) -> io::Result<()> {
-        stream.set_write_timeout(Some(within))
-    }
-
-    fn stream_blocks(&mut self, stream: &TcpStream, blocks: bool) -> io::Result<()> {
-        stream.set_nonblocking(!blocks)
     }
 
     fn shut_down(&mut self, stream: &TcpStream) -> io::Result<()> {

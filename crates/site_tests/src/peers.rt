@@ -4,10 +4,11 @@ use atx_sites::node_site::NodeSite;
 use real_system::real_system::RealSystem;
 use site_model::site::{AttachFailed, Site, Taken};
 use site_model::source::Failed;
-use std::io::{Read, Write};
+use std::io::{ErrorKind, Read, Write};
 use std::net::{Shutdown, TcpListener, TcpStream};
 use std::path::PathBuf;
 use std::test::Fail;
+use std::time::{Duration, Instant};
 use std::{env, fs, io, process};
 
 /// A Prepared of a participant, in a post to its coordinator.
@@ -107,10 +108,11 @@ fn posts<S: Site>(rt: &HostRuntime, site: &mut S, port: u16) -> io::Result<bool>
 }
 
 /// One peer is silent, one ends its side in the middle of its request, one resets its connection, and one sends a byte and
-/// nothing more. Each time the next is served.
+/// nothing more until its time is over. Each time the next is served.
 fn goes_on<S: Site>(rt: &HostRuntime, site: &mut S, port: u16) -> io::Result<bool> {
     let silent = peer(rt, port, b"")?;
-    let behind_silent = serves(rt, site, port)?;
+    let slow = peer(rt, port, b"P")?;
+    let behind_slow = serves(rt, site, port)?;
     let mut cut = peer(rt, port, b"POST / HT")?;
     cut.shutdown(Shutdown::Write)?;
     let heard_cut = hears(site, b"POST / HT") == Ok(true) && site.receive(&mut [0u8; 9]) == Ok(0);
@@ -118,18 +120,16 @@ fn goes_on<S: Site>(rt: &HostRuntime, site: &mut S, port: u16) -> io::Result<boo
     site.close();
     let answered = reads(&mut cut, ANSWER)?;
     let behind_cut = serves(rt, site, port)?;
-    let reset = peer(rt, port, b"POST")?;
-    let heard_reset = hears(site, b"POST") == Ok(true) && site.send(ANSWER).is_ok();
+    let reset = peer(rt, port, POST)?;
+    let heard_reset = hears(site, POST) == Ok(true) && site.send(ANSWER).is_ok();
     drop(reset);
     let lost = site.receive(&mut [0u8; 9]) == Err(Failed);
     let behind_reset = serves(rt, site, port)?;
-    let slow = peer(rt, port, b"P")?;
     let heard_slow = hears(site, b"P") == Ok(true) && site.receive(&mut [0u8; 9]) == Err(Failed);
-    let behind_slow = serves(rt, site, port)?;
     drop(slow);
     drop(silent);
     Ok(
-        behind_silent
+        behind_slow
             && heard_cut
             && sent
             && answered
@@ -137,33 +137,105 @@ fn goes_on<S: Site>(rt: &HostRuntime, site: &mut S, port: u16) -> io::Result<boo
             && heard_reset
             && lost
             && behind_reset
-            && heard_slow
-            && behind_slow,
+            && heard_slow,
     )
 }
 
+/// A request comes in two pieces, beside silent peers. The one that comes between them is served first.
+fn waits_aside<S: Site>(rt: &HostRuntime, site: &mut S, port: u16) -> io::Result<bool> {
+    let mut silent = Vec::new(rt.alloc());
+    for _ in 0..20 {
+        silent.push(peer(rt, port, b"")?)?;
+    }
+    let (front, back) = POST.split_at(POST.len().min(300));
+    let mut half = peer(rt, port, front)?;
+    let between = serves(rt, site, port)?;
+    half.write_all(back)?;
+    let heard = hears(site, POST) == Ok(true);
+    let sent = site.send(ANSWER).is_ok();
+    site.close();
+    let answered = reads(&mut half, ANSWER)?;
+    Ok(between && heard && sent && answered)
+}
+
+/// What can be read of a stream at once, and whether it ended.
+fn drained(stream: &mut TcpStream) -> io::Result<(usize, bool)> {
+    let mut buf = [0u8; 4096];
+    let mut sum = 0usize;
+    for _ in 0..u16::MAX {
+        match stream.read(&mut buf) {
+            Ok(0) => return Ok((sum, true)),
+            Ok(n) => sum = sum.saturating_add(n),
+            Err(fault) if fault.kind() == ErrorKind::WouldBlock => return Ok((sum, false)),
+            Err(fault) => return Err(fault),
+        }
+    }
+    Ok((sum, false))
+}
+
+/// A peer reads an answer of 8 MB so slowly that the system doesn't take it all at once. Others are served meanwhile.
+fn answers_slowly<S: Site>(rt: &HostRuntime, site: &mut S, port: u16) -> io::Result<bool> {
+    let mut slow = peer(rt, port, POST)?;
+    let heard = hears(site, POST) == Ok(true);
+    let answer = vec![in rt.alloc(); b'a'; 1_048_576]?;
+    for _ in 0..8 {
+        if site.send(answer.as_slice()).is_err() {
+            return Ok(false);
+        }
+    }
+    site.close();
+    slow.set_nonblocking(true)?;
+    let mut sum = 0usize;
+    for _ in 0..10_000 {
+        let served = serves(rt, site, port)?;
+        let (n, ended) = drained(&mut slow)?;
+        sum = sum.saturating_add(n);
+        if !served || ended {
+            return Ok(heard && served && sum == 8_388_608);
+        }
+    }
+    Ok(false)
+}
+
+/// A peer doesn't accept a post's connection: nobody waits for it.
+fn passes_over<S: Site>(rt: &HostRuntime, site: &mut S, port: u16) -> io::Result<bool> {
+    let start = Instant::now(rt)?;
+    for _ in 0..4 {
+        let _ = site.post("192.0.2.1", 80, POST);
+    }
+    let served = serves(rt, site, port)?;
+    Ok(served && start.elapsed(rt)? < Duration::from_secs(1))
+}
+
 /// What a test does with a machine at a port.
-#[derive(Clone, Copy)]
+#[derive(Clone, Copy, PartialEq, Eq)]
 enum Act {
     Serve,
     Post,
     GoOn,
+    WaitAside,
+    AnswerSlowly,
+    PassOver,
 }
 
 fn attached(rt: &HostRuntime, test: &str, act: Act) -> io::Result<bool> {
     let name = name_of(rt, test)?;
     let port = free_port(rt)?;
     let address = address_of(rt, port)?;
-    let mut site = NodeSite::new(RealSystem::new(rt));
+    let mut site = NodeSite::new(rt.alloc(), RealSystem::new(rt));
     let shut = site.take().is_err();
     let opened = site.attach(name.as_str(), address.as_str()) == Ok(());
     let done = match act {
         Act::Serve => serves(rt, &mut site, port),
         Act::Post => posts(rt, &mut site, port),
         Act::GoOn => goes_on(rt, &mut site, port),
+        Act::WaitAside => waits_aside(rt, &mut site, port),
+        Act::AnswerSlowly => answers_slowly(rt, &mut site, port),
+        Act::PassOver => passes_over(rt, &mut site, port),
     };
+    site.leave();
     remove(rt, &name)?;
-    Ok(shut && opened && done?)
+    Ok(shut && opened && done? && (site.lost() == 0 || act == Act::PassOver))
 }
 
 #[test]
@@ -187,12 +259,33 @@ fn no_peer_holds_the_node(rt: HostRuntime) -> Result<(), Fail> {
     Ok(())
 }
 
+#[test]
+fn a_half_sent_request_delays_nobody(rt: HostRuntime) -> Result<(), Fail> {
+    let waits = attached(&rt, "aside", Act::WaitAside)?;
+    assert!(rt; waits, "waits aside");
+    Ok(())
+}
+
+#[test]
+fn a_slow_reader_delays_nobody(rt: HostRuntime) -> Result<(), Fail> {
+    let answers = attached(&rt, "slowly", Act::AnswerSlowly)?;
+    assert!(rt; answers, "answers slowly");
+    Ok(())
+}
+
+#[test]
+fn an_unreachable_peer_delays_nobody(rt: HostRuntime) -> Result<(), Fail> {
+    let passes = attached(&rt, "over", Act::PassOver)?;
+    assert!(rt; passes, "passes over");
+    Ok(())
+}
+
 /// Two machines can't have one address; the second has its files by then, so the first didn't fail on them.
 fn shuts_out(rt: &HostRuntime, name: &str, other_name: &str) -> io::Result<bool> {
     let port = free_port(rt)?;
     let address = address_of(rt, port)?;
-    let mut site = NodeSite::new(RealSystem::new(rt));
-    let mut other = NodeSite::new(RealSystem::new(rt));
+    let mut site = NodeSite::new(rt.alloc(), RealSystem::new(rt));
+    let mut other = NodeSite::new(rt.alloc(), RealSystem::new(rt));
     let first = site.attach(name, address.as_str());
     let same_files = other.attach(name, "127.0.0.1:0");
     let same_port = other.attach(other_name, address.as_str());

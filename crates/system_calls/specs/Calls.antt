@@ -1,5 +1,5 @@
 -- The calls of the system, each with its arguments and its answer.
-use Rattle.std.specs.Prelude.{ℕ, ℤ, Bool, List, Option, Result, Ok, Err, ◌∷◌, take, option_map, ◌+◌, []}
+use Rattle.std.specs.Prelude.{ℕ, ℤ, List, Option, Result, Ok, Err, ◌∷◌, take, option_map}
 use Rattle.std.specs.declared.net.SocketAddr.{SocketAddr}
 use Rattle.std.specs.declared.time.Duration.{Duration}
 use Rattle.libc.specs.declared.types.pollfd.{pollfd}
@@ -17,6 +17,10 @@ Answer T = Result T Error
 abbrev pub answer : {A B : Type 0} → (A → B) → Answer A → Answer B
 answer f (Ok x) = Ok (f x)
 answer f (Err e) = Err e
+
+-- what is told of a connection that came from an address
+abbrev pub came : {C : Type 0} → (C → Number) → C × SocketAddr → Number × SocketAddr
+came number accepted = (number accepted.0, accepted.1)
 
 -- the bytes that a read put at the start of a buffer
 abbrev pub given : List ℕ → Answer ℕ → Answer (List ℕ)
@@ -36,18 +40,18 @@ pub data Call : Type 0 where
   Sync : (file : Number) (got : Answer (Unit {0})) → Call
   -- what the system holds of the file in memory is dropped
   Forget : (file : Number) (got : Answer (Unit {0})) → Call
+  -- accepting there never waits
   Listen : (address : List ℕ) (got : Answer Number) → Call
-  Accept : (listener : Number) (got : Answer Number) → Call
+  -- with the address that it comes from; reading and writing on it never wait
+  Accept : (listener : Number) (got : Answer (Number × SocketAddr)) → Call
   Resolve : (host : List ℕ) (port : ℕ) (got : Answer (List SocketAddr)) → Call
-  Connect : (address : SocketAddr) (within : Duration) (got : Answer Number) → Call
+  -- it begins to connect; what became of it is told by its failure, once it can be written
+  Connect : (address : SocketAddr) (got : Answer Number) → Call
+  Failure : (stream : Number) (got : Answer (Unit {0})) → Call
   -- what is asked of which numbers, and what was found
   Poll : (asked : List pollfd) (millis : ℤ) (found : List pollfd) (count : ℤ) → Call
   Read : (stream : Number) (got : Answer (List ℕ)) → Call
   Write : (stream : Number) (bytes : List ℕ) (got : Answer ℕ) → Call
-  -- how long a read or a write may wait, and whether it may
-  ReadWithin : (stream : Number) (within : Duration) (got : Answer (Unit {0})) → Call
-  WriteWithin : (stream : Number) (within : Duration) (got : Answer (Unit {0})) → Call
-  Blocks : (number : Number) (does : Bool) (got : Answer (Unit {0})) → Call
   -- nothing more is sent
   ShutDown : (stream : Number) (got : Answer (Unit {0})) → Call
   -- the clock that never goes back
@@ -60,10 +64,3 @@ Calls = Option (List Call)
 -- one call more
 abbrev pub then : Call → Calls → Calls
 then call calls = option_map (λ l. call ∷ l) calls
-
--- how often a byte of a file was asked for or written
-abbrev pub moves : List Call → ℕ
-moves [] = 0
-moves (ReadAt file at got ∷ before) = moves before + 1
-moves (WriteAt file at bytes got ∷ before) = moves before + 1
-moves (_ ∷ before) = moves before

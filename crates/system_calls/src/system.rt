@@ -23,8 +23,8 @@ pub trait System {
     ghost use Rattle.std.specs.Prelude.{◌≡◌, List, Option};
     ghost use Rattle.std.specs.Io.{ReadsAtMost, WritesAtMost};
     ghost use Rattle.std.specs.Net.ToAddrs.{host_addrs};
-    ghost use Rattle.system_calls.specs.Calls.{Call, answer, given, then};
-    ghost use Rattle.system_calls.specs.Calls.Call.{Open, OpenFolder, Duplicate, Examine, Lock, ReadAt, WriteAt, Sync, Forget, Listen, Accept, Resolve, Connect, Poll, Read, Write, ReadWithin, WriteWithin, Blocks, ShutDown, Monotonic};
+    ghost use Rattle.system_calls.specs.Calls.{Call, answer, came, given, then};
+    ghost use Rattle.system_calls.specs.Calls.Call.{Open, OpenFolder, Duplicate, Examine, Lock, ReadAt, WriteAt, Sync, Forget, Listen, Accept, Resolve, Connect, Failure, Poll, Read, Write, ShutDown, Monotonic};
 
     type File: AsRawFd + Drop;
 
@@ -72,52 +72,42 @@ pub trait System {
     fn forget(&mut self, file: &Self::File) -> io::Result<()>
         ensures { calls self.new ≡ then (Forget (Self.File.raw_fd file.now) result) (calls self.old) };
 
-    /// Listens at an address.
+    /// Listens at an address. Accepting there never waits.
     fn listen(&mut self, address: &str) -> io::Result<Self::Listener>
         ensures { calls self.new ≡ then (Listen address.now (answer Self.Listener.raw_fd result)) (calls self.old) };
 
-    /// Whether accepting may wait.
-    fn listener_blocks(&mut self, listener: &Self::Listener, blocks: bool) -> io::Result<()>
-        ensures { calls self.new ≡ then (Blocks (Self.Listener.raw_fd listener.now) blocks result) (calls self.old) };
-
-    /// Accepts a connection.
-    fn accept(&mut self, listener: &Self::Listener) -> io::Result<Self::Stream>
-        ensures { calls self.new ≡ then (Accept (Self.Listener.raw_fd listener.now) (answer Self.Stream.raw_fd result)) (calls self.old) };
+    /// Accepts a connection, with the address that it comes from, or fails as one that would wait. Reading and writing on it
+    /// never wait.
+    fn accept(&mut self, listener: &Self::Listener) -> io::Result<(Self::Stream, SocketAddr)>
+        ensures { calls self.new ≡ then (Accept (Self.Listener.raw_fd listener.now) (answer (came Self.Stream.raw_fd) result)) (calls self.old) };
 
     /// The addresses of a host at a port. A host that isn't an address is looked up, without a limit of time.
     fn resolve(&mut self, host: &str, port: u16) -> io::Result<HostAddrs>
         ensures { calls self.new ≡ then (Resolve host.now port (answer host_addrs result)) (calls self.old) };
 
-    /// Connects to an address within a time.
-    fn connect(&mut self, address: &SocketAddr, within: Duration) -> io::Result<Self::Stream>
-        ensures { calls self.new ≡ then (Connect address.now within (answer Self.Stream.raw_fd result)) (calls self.old) };
+    /// Begins to connect to an address, and doesn't wait: once poll says that the connection can be written, `failure` tells
+    /// what became of it. Reading and writing on it never wait.
+    fn connect(&mut self, address: &SocketAddr) -> io::Result<Self::Stream>
+        ensures { calls self.new ≡ then (Connect address.now (answer Self.Stream.raw_fd result)) (calls self.old) };
+
+    /// The fault that a connection met since this was asked last; Ok where there was none.
+    fn failure(&mut self, stream: &Self::Stream) -> io::Result<()>
+        ensures { calls self.new ≡ then (Failure (Self.Stream.raw_fd stream.now) result) (calls self.old) };
 
     /// Waits so many milliseconds, without a limit where that is negative, until one of these numbers is as it is asked, and
     /// says of each what was found, and of how many. It passes over negative numbers.
     fn poll(&mut self, asks: &mut [pollfd], millis: i32) -> i32
         ensures { calls self.new ≡ then (Poll asks.old millis asks.new result) (calls self.old) };
 
-    /// Reads what has come, and says how many bytes. Zero into a nonempty buffer is the end.
+    /// Reads what has come, and says how many bytes, or fails as one that would wait. Zero into a nonempty buffer is the end.
     fn read(&mut self, stream: &Self::Stream, buf: &mut [u8]) -> io::Result<usize>
         ensures bound { ReadsAtMost result buf.new }
         ensures calls { calls self.new ≡ then (Read (Self.Stream.raw_fd stream.now) (given buf.new result)) (calls self.old) };
 
-    /// Hands bytes to the system, and says how many it took.
+    /// Hands bytes to the system, and says how many it took, or fails as one that would wait.
     fn write(&mut self, stream: &Self::Stream, bytes: &[u8]) -> io::Result<usize>
         ensures bound { WritesAtMost result bytes.now }
         ensures calls { calls self.new ≡ then (Write (Self.Stream.raw_fd stream.now) bytes.now result) (calls self.old) };
-
-    /// How long a read may wait.
-    fn read_within(&mut self, stream: &Self::Stream, within: Duration) -> io::Result<()>
-        ensures { calls self.new ≡ then (ReadWithin (Self.Stream.raw_fd stream.now) within result) (calls self.old) };
-
-    /// How long a write may wait.
-    fn write_within(&mut self, stream: &Self::Stream, within: Duration) -> io::Result<()>
-        ensures { calls self.new ≡ then (WriteWithin (Self.Stream.raw_fd stream.now) within result) (calls self.old) };
-
-    /// Whether reading and writing may wait.
-    fn stream_blocks(&mut self, stream: &Self::Stream, blocks: bool) -> io::Result<()>
-        ensures { calls self.new ≡ then (Blocks (Self.Stream.raw_fd stream.now) blocks result) (calls self.old) };
 
     /// Sends nothing more.
     fn shut_down(&mut self, stream: &Self::Stream) -> io::Result<()>

@@ -14,7 +14,7 @@ returns-then-is_err-clause-call g c =
 pub returns-in-Ok-clause-system : goal.returns-in-Ok-clause-system
 returns-in-Ok-clause-system g c =
     let both = held g.S.File.AsRawFd.raw_fd c.args.journal.now c.open.result c.open.new.disk (g.S.System.calls c.args.self.now.system) (g.S.System.calls c.open.new.system) c.if-is_err.ensures.value c.open.ensures.calls in
-    (g.S.System.calls c.open.new.system, both, listens c.args.listen.now _ _ _ c.listen-listening.result _ c.in-Ok.ensures.ok c.listen-listening.ensures)
+    (g.S.System.calls c.open.new.system, both, listens c.args.listen.now _ _ _ c.listen-listening.result _ c.in-Ok.ensures.ok c.listen-listening.ensures.calls)
 
 pub returns-in-Ok-clause-sure : goal.returns-in-Ok-clause-sure
 returns-in-Ok-clause-sure g c = on_passed c.open.result c.if-is_err.ensures.value c.open.ensures.sure

@@ -1,5 +1,6 @@
 use Rattle.atx_sites.proofs.Receipts.{bounded, received}
 use Rattle.atx_sites.proofs.SilentMachines.{stays_err}
+use Rattle.atx_sites.proofs.Turns.{gives_counted}
 use Rattle.atx_sites.proofs.node_site.NodeSiteSite.receive.Goals as goal
 
 pub returns-clause-shut : goal.returns-clause-shut
@@ -8,3 +9,6 @@ returns-clause-shut g c h = stays_err _ _ c.counted.ensures.ok (c.receive.ensure
 pub returns-clause-call : goal.returns-clause-call
 returns-clause-call g c =
     received c.args.self.now.disk _ _ _ _ _ _ _ _ (bounded _ _ _ c.counted.ensures.ok c.receive.ensures.bound) c.counted.ensures.cause c.counted.ensures.exact
+
+pub returns-clause-gives : goal.returns-clause-gives
+returns-clause-gives g c = gives_counted _ _ _ _ _ c.counted.ensures.as_was c.counted.ensures.ok c.receive.ensures.gives

@@ -1,0 +1,39 @@
+-- The calls of connections that leave are calls later.
+use Rattle.std.proofs.Common.{ℕ, List, Vec, ◌≡◌, ◌∙◌, inl, inr, refl, sym, subst}
+use Rattle.std.specs.declared.alloc.Global.{Global}
+use Rattle.std.specs.declared.net.SocketAddr.{SocketAddr}
+use Rattle.system_calls.specs.Calls.{Calls, Number, then}
+use Rattle.atx_sites.specs.Departures.{Advances, Answers, Goes, Leaves, Went}
+use Rattle.atx_sites.specs.Departures.Advances.{none as none_go, next}
+use Rattle.atx_sites.specs.Departures.Leaves.{none as no_call, took, failed, connects, unreached, shuts, reads}
+use Rattle.atx_sites.specs.LinkCalls.{Later}
+use Rattle.atx_sites.specs.LinkCalls.Later.{none, more}
+use Rattle.atx_sites.specs.declared.outgoing.Outgoing.{Outgoing}
+use Rattle.atx_sites.proofs.Comings.{later_still}
+
+pub leaves_later : (addresses : List SocketAddr) (bytes : List ℕ) (stream : Number) (sent : ℕ) (old : Calls) (s : Number) (k : ℕ) (new : Calls)
+    → Leaves addresses bytes stream sent old s k new → Later old new
+leaves_later addresses bytes stream sent old s k new (no_call i j e) = none e
+leaves_later addresses bytes stream sent old s k new (took m h i e) = more _ (leaves_later addresses bytes stream sent old _ _ _ h) e
+leaves_later addresses bytes stream sent old s k new (failed fault h e) = more _ (leaves_later addresses bytes stream sent old _ _ _ h) e
+leaves_later addresses bytes stream sent old s k new (connects address h z c e) = more _ (leaves_later addresses bytes stream sent old _ _ _ h) e
+leaves_later addresses bytes stream sent old s k new (unreached address fault h z c e) = more _ (leaves_later addresses bytes stream sent old _ _ _ h) e
+leaves_later addresses bytes stream sent old s k new (shuts got h out e) = more _ (leaves_later addresses bytes stream sent old _ _ _ h) e
+leaves_later addresses bytes stream sent old s k new (reads got h out e) = more _ (leaves_later addresses bytes stream sent old _ _ _ h) e
+
+pub goes_later : (addresses : List SocketAddr) (bytes : List ℕ) (from : Number) (sent : ℕ) (old : Calls) (to : Number) (now : ℕ) (new : Calls)
+    → Goes addresses bytes from sent old to now new → Later old new
+goes_later addresses bytes from sent old to now new g =
+    leaves_later addresses bytes from sent old to now new (g from sent old (no_call refl refl refl))
+
+pub advances_later : {C : Type 0} (number : C → Number) (old : Calls) (befores afters : List (Outgoing C)) (new : Calls)
+    → Advances number old befores afters new → Later old new
+advances_later number old befores afters new (none_go a b e) = none e
+advances_later number old befores afters new (next {mid = mid} before after h w a b) =
+    later_still old mid new (advances_later number old _ _ mid h) (leaves_later _ _ _ _ mid _ _ new w.0)
+
+pub answers_later : {C : Type 0} (number : C → Number) (stream : C) (bytes : Vec ℕ Global) (sent : ℕ) (before : List (Outgoing C)) (old : Calls) (after : List (Outgoing C)) (new : Calls)
+    → Answers number stream bytes sent before old after new → Later old new
+answers_later number stream bytes sent before old after new (others, part, mid, (got, e), inl (a, b)) = more _ (none refl) (b ∙ e)
+answers_later number stream bytes sent before old after new (others, part, mid, (got, e), inr (begun, result, s, b, d, (went, w, joins))) =
+    later_still old mid new (more _ (none refl) e) (leaves_later _ _ _ _ mid _ _ new w.0)

@@ -1,0 +1,29 @@
+-- What is said of a connection that is served stands also where a failure is counted.
+use Rattle.std.proofs.Common.{ℕ, List, Bool, Option, Result, Ok, Err, None, Some, ◌≡◌, true, false, refl, sym, subst, IfOk}
+use Rattle.site_model.specs.declared.source.Failed.{Failed}
+use Rattle.system_calls.specs.Calls.{Answer, Calls, Number}
+use Rattle.atx_sites.specs.Arrivals.{Gives, KeepsOn, KeptOn}
+use Rattle.atx_sites.specs.declared.connection.Served.{Served}
+
+module _ {C : Type 0} where
+  pub gives_counted : (buf : List ℕ) (answer : Answer ℕ) (result : Result ℕ Failed) (old new : Option (Served C)) → ((x : ℕ) → answer ≡ Ok x → result ≡ Ok x)
+      → IfOk result (λ x. answer ≡ Ok x) → Gives buf answer old new → Gives buf result old new
+  gives_counted buf (Ok n) result old new was ok h = subst (λ r. Gives buf r old new) (sym (was n refl)) h
+  gives_counted buf (Err e) (Ok x) old new was ok h = cc
+  gives_counted buf (Err e) (Err f) (Some a) (Some b) was ok h = h
+  gives_counted buf (Err e) (Err f) (Some a) None was ok h = h
+  gives_counted buf (Err e) (Err f) None new was ok h = h
+
+  kept_failed : {E F : Type 0} (number : C → Number) (bytes : List ℕ) (cut : Bool) (e : E) (f : F) (old new : Served C) (before now : Calls)
+      → KeptOn cut number bytes (Err e) old new before now → KeptOn cut number bytes (Err f) old new before now
+  kept_failed number bytes true e f old new before now h = h
+  kept_failed number bytes false e f old new before now h = h
+
+  pub kept_counted : (number : C → Number) (bytes : List ℕ) (answer : Answer (Unit {0})) (result : Result (Unit {0}) Failed) (old new : Option (Served C)) (before now : Calls)
+      → ((x : Unit {0}) → answer ≡ Ok x → result ≡ Ok x) → IfOk result (λ x. answer ≡ Ok x) → KeepsOn number bytes answer old new before now
+      → KeepsOn number bytes result old new before now
+  kept_counted number bytes (Ok d) result old new before now was ok h = subst (λ r. KeepsOn number bytes r old new before now) (sym (was d refl)) h
+  kept_counted number bytes (Err e) (Ok x) old new before now was ok h = cc
+  kept_counted number bytes (Err e) (Err f) (Some a) (Some b) before now was ok h = kept_failed number bytes a.is_cut e f a b before now h
+  kept_counted number bytes (Err e) (Err f) (Some a) None before now was ok h = h
+  kept_counted number bytes (Err e) (Err f) None new before now was ok h = h

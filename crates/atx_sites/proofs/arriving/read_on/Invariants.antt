@@ -1,0 +1,10 @@
+use Rattle.system_calls.specs.Calls.{Number}
+use Rattle.atx_sites.specs.Arrivals.{Grows, HasCome}
+use Rattle.atx_sites.specs.LinkCalls.{Later}
+use Rattle.atx_sites.proofs.arriving.read_on.Given as goal
+
+abbrev pub invariant-reads : goal.invariant-reads
+invariant-reads g l =
+    ((listener : Number) → HasCome g.S.Stream.AsRawFd.raw_fd listener (g.S.System.calls l.fn.system) l.fn.arriving → HasCome g.S.Stream.AsRawFd.raw_fd listener (g.S.System.calls l.system) l.arriving)
+    × Later (g.S.System.calls l.fn.system) (g.S.System.calls l.system)
+    × Grows l.fn.arriving.bytes.items l.arriving.bytes.items

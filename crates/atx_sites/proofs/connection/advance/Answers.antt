@@ -1,0 +1,9 @@
+use Rattle.atx_sites.proofs.Afterwards.{advances_later}
+use Rattle.atx_sites.proofs.Comings.{late_by, later_still}
+use Rattle.atx_sites.proofs.connection.advance.Goals as goal
+
+pub returns-in-Ok : goal.returns-in-Ok
+returns-in-Ok g c = record { later = later_still _ _ _ (late_by _ _ _ c.monotonic.ensures) (advances_later _ _ _ _ _ c.advance.ensures.1) }
+
+pub returns-in-Err : goal.returns-in-Err
+returns-in-Err g c = record { later = late_by _ _ _ c.monotonic.ensures }

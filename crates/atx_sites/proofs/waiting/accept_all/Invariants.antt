@@ -1,0 +1,10 @@
+use Rattle.system_calls.specs.Calls.{Number}
+use Rattle.atx_sites.specs.Arrivals.{HaveCome}
+use Rattle.atx_sites.specs.LinkCalls.{Later}
+use Rattle.atx_sites.proofs.waiting.accept_all.Given as goal
+
+abbrev pub invariant-accepted : goal.invariant-accepted
+invariant-accepted g l =
+    (HaveCome g.S.Stream.AsRawFd.raw_fd (g.S.Listener.AsRawFd.raw_fd l.listener) (g.S.System.calls l.fn.system) l.fn.waiting.arriving.items
+    → HaveCome g.S.Stream.AsRawFd.raw_fd (g.S.Listener.AsRawFd.raw_fd l.listener) (g.S.System.calls l.system) l.waiting.arriving.items)
+    × Later (g.S.System.calls l.fn.system) (g.S.System.calls l.system)

@@ -1,0 +1,124 @@
+-- Which calls of the system are made on connections with bytes that leave.
+use Rattle.std.specs.Prelude.{ℕ, Bool, true, false, List, Option, Vec, Some, None, Result, Ok, Err, IsErr, [], ◌∷◌, ◌++◌, ◌≡◌, ◌⊎◌, ◌+◌, ◌≤◌, length, drop, slice_index_or, slice_set, remove, Contains}
+use Rattle.std.specs.declared.io.Error.{Error}
+use Rattle.std.specs.declared.net.SocketAddr.{SocketAddr}
+use Rattle.std.specs.declared.time.Duration.{Duration}
+use Rattle.std.specs.declared.alloc.Global.{Global}
+use Rattle.system_calls.specs.Calls.{Calls, Number, Answer, then}
+use Rattle.system_calls.specs.Calls.Call.{Connect, Monotonic, Read, Resolve, ShutDown, Write}
+use Rattle.atx_sites.specs.declared.outgoing.Outgoing.{Outgoing}
+use Rattle.atx_sites.specs.declared.outgoing.Stage.{Stage}
+use Rattle.atx_sites.specs.declared.outgoing.Stage.TheVariants as stages
+
+-- The calls of one connection, from where `sent` of its bytes were taken: each write is of all that those before it didn't take.
+-- Where an address took none of them, there is another connection, to another of the host's. Behind the last byte nothing more is
+-- sent, and what comes is read. No other call is made.
+pub data Leaves (addresses : List SocketAddr) (bytes : List ℕ) (stream : Number) (sent : ℕ) (old : Calls) : Number → ℕ → Calls → Type 0 where
+  none : {s : Number} {k : ℕ} {new : Calls} → s ≡ stream → k ≡ sent → new ≡ old → Leaves addresses bytes stream sent old s k new
+  took : {s : Number} {j k : ℕ} {mid new : Calls} (m : ℕ) → Leaves addresses bytes stream sent old s j mid → k ≡ j + m
+      → new ≡ then (Write s (drop j bytes) (Ok m)) mid → Leaves addresses bytes stream sent old s k new
+  failed : {s : Number} {k : ℕ} {mid new : Calls} (fault : Error) → Leaves addresses bytes stream sent old s k mid
+      → new ≡ then (Write s (drop k bytes) (Err fault)) mid → Leaves addresses bytes stream sent old s k new
+  connects : {s next : Number} {k : ℕ} {mid new : Calls} (address : SocketAddr) → Leaves addresses bytes stream sent old s k mid → k ≡ 0 → Contains addresses address
+      → new ≡ then (Connect address (Ok next)) mid → Leaves addresses bytes stream sent old next k new
+  unreached : {s : Number} {k : ℕ} {mid new : Calls} (address : SocketAddr) (fault : Error) → Leaves addresses bytes stream sent old s k mid → k ≡ 0
+      → Contains addresses address → new ≡ then (Connect address (Err fault)) mid → Leaves addresses bytes stream sent old s k new
+  shuts : {s : Number} {k : ℕ} {mid new : Calls} (got : Answer (Unit {0})) → Leaves addresses bytes stream sent old s k mid → length bytes ≤ k
+      → new ≡ then (ShutDown s got) mid → Leaves addresses bytes stream sent old s k new
+  reads : {s : Number} {k : ℕ} {mid new : Calls} (got : Answer (List ℕ)) → Leaves addresses bytes stream sent old s k mid → length bytes ≤ k
+      → new ≡ then (Read s got) mid → Leaves addresses bytes stream sent old s k new
+
+-- the same, of a connection whose calls so far were such ones: they still are
+abbrev pub Goes : List SocketAddr → List ℕ → Number → ℕ → Calls → Number → ℕ → Calls → Type 0
+Goes addresses bytes from sent old to now new =
+    (stream : Number) (k : ℕ) (first : Calls) → Leaves addresses bytes stream k first from sent old → Leaves addresses bytes stream k first to now new
+
+-- connections to some of these addresses were begun in vain, any number
+pub data Unreached (addresses : List SocketAddr) (old : Calls) : Calls → Type 0 where
+  none : {new : Calls} → new ≡ old → Unreached addresses old new
+  again : {mid new : Calls} (address : SocketAddr) (fault : Error) → Unreached addresses old mid → Contains addresses address
+      → new ≡ then (Connect address (Err fault)) mid → Unreached addresses old new
+
+-- and then one is begun, or none
+abbrev pub Begins : {C : Type 0} → (C → Number) → List SocketAddr → Option C → Calls → Calls → Type 0
+Begins number addresses (Some stream) old new =
+    (mid : Calls) × Unreached addresses old mid × ((address : SocketAddr) × Contains addresses address × (new ≡ then (Connect address (Ok (number stream))) mid))
+Begins number addresses None old new = Unreached addresses old new
+
+-- one connection went on: its bytes and its host's addresses stay
+abbrev pub Went : {C : Type 0} → (C → Number) → Outgoing C → Calls → Outgoing C → Calls → Type 0
+Went number before old after new =
+    Leaves before.addresses.items before.bytes.items (number before.stream) before.done old (number after.stream) after.done new
+    × (after.bytes ≡ before.bytes) × (after.addresses ≡ before.addresses)
+
+-- the one at a place went on
+abbrev pub WentAt : {C : Type 0} → (C → Number) → ℕ → List (Outgoing C) → Calls → List (Outgoing C) → Calls → Type 0
+WentAt {C = C} number place befores old afters new =
+    (before : Outgoing C) × (after : Outgoing C) × (before ≡ slice_index_or befores place before) × Went number before old after new × (afters ≡ slice_set befores place after)
+
+-- each of them went on, one behind the other
+pub data Advances {C : Type 0} (number : C → Number) (old : Calls) : List (Outgoing C) → List (Outgoing C) → Calls → Type 0 where
+  none : {befores afters : List (Outgoing C)} {new : Calls} → befores ≡ [] → afters ≡ [] → new ≡ old → Advances number old befores afters new
+  next : {befores afters front went : List (Outgoing C)} {mid new : Calls} (before after : Outgoing C) → Advances number old front went mid → Went number before mid after new
+      → befores ≡ front ++ before ∷ [] → afters ≡ went ++ after ∷ [] → Advances number old befores afters new
+
+-- nothing more is to be done; and of these, those of which not all bytes were taken
+abbrev pub is_last : Stage → Bool
+is_last stages.Over = true
+is_last stages.Lost = true
+is_last stage = false
+
+abbrev pub is_loss : Stage → Bool
+is_loss stages.Lost = true
+is_loss stage = false
+
+abbrev pub is_over : {C : Type 0} → Outgoing C → Bool
+is_over outgoing = is_last outgoing.stage
+
+abbrev pub is_lost : {C : Type 0} → Outgoing C → Bool
+is_lost outgoing = is_loss outgoing.stage
+
+-- some of them were left out, and the others are in their order
+pub data IsPart {X : Type 0} (all : List X) : List X → Type 0 where
+  none : {part : List X} → part ≡ all → IsPart all part
+  less : {mid part : List X} (i : ℕ) → IsPart all mid → part ≡ remove mid i → IsPart all part
+
+-- a post's connection was begun, to one of these addresses
+abbrev pub IfBegun : {C : Type 0} → (C → Number) → List SocketAddr → List ℕ → Option (Outgoing C) → Calls → Calls → Type 0
+IfBegun number addresses bytes (Some begun) old new =
+    Begins number addresses (Some begun.stream) old new × (begun.addresses.items ≡ addresses) × (begun.bytes.items ≡ bytes) × (begun.done ≡ 0)
+IfBegun number addresses bytes None old new = Unreached addresses old new
+
+-- it stands behind the others; or it is closed, and where that is no failure all its bytes were taken
+abbrev pub Joins : {C : Type 0} → Result (Unit {0}) Error → Outgoing C → List (Outgoing C) → List (Outgoing C) → Type 0
+Joins (Ok done) outgoing others all = (all ≡ others ++ outgoing ∷ []) ⊎ ((all ≡ others) × (length outgoing.bytes.items ≤ outgoing.done))
+Joins (Err fault) outgoing others all = all ≡ others
+
+-- one more went on as far as it could, and stands behind the others unless it is closed
+abbrev pub Starts : {C : Type 0} → (C → Number) → Outgoing C → Calls → Result (Unit {0}) Error → List (Outgoing C) → List (Outgoing C) → Calls → Type 0
+Starts {C = C} number before old result others all new = (after : Outgoing C) × Went number before old after new × Joins result after others all
+
+-- these bytes are posted to one of these addresses, where one more has room
+abbrev pub PostsTo : {C : Type 0} → (C → Number) → List SocketAddr → List ℕ → List (Outgoing C) → Calls → Result (Unit {0}) Error → List (Outgoing C) → Calls → Type 0
+PostsTo {C = C} number addresses bytes before old result after new =
+    (others : List (Outgoing C)) × IsPart before others
+    × ((IsErr result × (after ≡ others) × Unreached addresses old new)
+    ⊎ ((begun : Outgoing C) × (mid : Calls) × IfBegun number addresses bytes (Some begun) old mid × Starts number begun mid result others after new))
+
+-- the clock is read, and a host is looked up
+pub data Looks (host : List ℕ) (port : ℕ) (old : Calls) : Calls → Type 0 where
+  none : {new : Calls} → new ≡ old → Looks host port old new
+  clock : {mid new : Calls} (got : Answer Duration) → Looks host port old mid → new ≡ then (Monotonic got) mid → Looks host port old new
+  resolves : {mid new : Calls} (got : Answer (List SocketAddr)) → Looks host port old mid → new ≡ then (Resolve host port got) mid → Looks host port old new
+
+-- these bytes are posted, where the addresses of a host are known or looked up
+abbrev pub Posts : {C : Type 0} → (C → Number) → ℕ → List ℕ → List (Outgoing C) → Calls → Result (Unit {0}) Error → List (Outgoing C) → Calls → Type 0
+Posts number port bytes before old result after new =
+    (host : List ℕ) × (addresses : List SocketAddr) × (looked : Calls) × Looks host port old looked × PostsTo number addresses bytes before looked result after new
+
+-- what is left of an answer is taken over with its connection, where one more has room
+abbrev pub Answers : {C : Type 0} → (C → Number) → C → Vec ℕ Global → ℕ → List (Outgoing C) → Calls → List (Outgoing C) → Calls → Type 0
+Answers {C = C} number stream bytes sent before old after new =
+    (others : List (Outgoing C)) × IsPart before others × (mid : Calls) × ((got : Answer Duration) × (mid ≡ then (Monotonic got) old))
+    × (((after ≡ others) × (new ≡ mid))
+    ⊎ ((begun : Outgoing C) × (result : Result (Unit {0}) Error) × (begun.stream ≡ stream) × (begun.bytes ≡ bytes) × (begun.done ≡ sent) × Starts number begun mid result others after new))

@@ -1,0 +1,153 @@
+//! One connection that is read aside.
+
+ghost use Rattle.system_calls.specs.Calls.{Number};
+ghost use Rattle.atx_sites.specs.Arrivals.{Grows, HasCome};
+ghost use Rattle.atx_sites.specs.LinkCalls.{Later};
+
+use crate::deadlines::left;
+use crate::framing::{Stage, come_to};
+use httparse::spans::HeaderSpan;
+use libc::net::POLLIN;
+use libc::types::pollfd;
+use std::alloc::Global;
+use std::io::{self, ErrorKind};
+use std::os::fd::AsRawFd;
+use std::time::Duration;
+use system_calls::system::System;
+
+/// The most bytes that are read aside of one connection.
+const MOST_BYTES: usize = 131_072;
+
+/// The most bytes of one read.
+const PIECE_BYTES: usize = 8192;
+
+/// Whether more may come on a connection.
+#[derive(Clone, Copy, Debug, PartialEq, Eq)]
+pub(crate) enum Rest {
+    More,
+    /// The peer sends nothing more.
+    Ended,
+    /// Reading failed, or there was no memory for what came.
+    Failed,
+}
+
+/// A connection that is read aside, until its request is whole.
+#[derive(Drop)]
+pub(crate) struct Arriving<C> {
+    pub(crate) stream: C,
+    pub(crate) bytes: Vec<u8>,
+    pub(crate) rest: Rest,
+    /// The time at which it has been read for long enough.
+    pub(crate) ends: Duration,
+    stage: Stage,
+}
+
+/// What the system is asked of a descriptor: whether there is something to read. It passes over a negative one.
+pub(crate) fn asked(fd: i32) -> pollfd {
+    pollfd {
+        fd,
+        events: POLLIN,
+        revents: 0,
+    }
+}
+
+/// Whether more may come where a read failed so.
+fn passes(kind: ErrorKind) -> bool {
+    matches!(kind, ErrorKind::WouldBlock | ErrorKind::Interrupted)
+}
+
+impl<C> Arriving<C> {
+    pub(crate) fn new(alloc: Global, stream: C, ends: Duration) -> Arriving<C> {
+        Arriving {
+            stream,
+            bytes: Vec::new(alloc),
+            rest: Rest::More,
+            ends,
+            stage: Stage::Head,
+        }
+    }
+
+    /// Whether more of it is to be read aside.
+    fn is_coming(&self) -> bool {
+        self.rest == Rest::More && self.stage != Stage::Whole && self.bytes.len() < MOST_BYTES
+    }
+
+    /// Whether its turn may come: its request is whole, it ended or failed, or its time is over.
+    pub(crate) fn is_ready(&self, now: Duration) -> bool {
+        !self.is_coming() || now >= self.ends
+    }
+
+    /// Whether its time is over, and nothing came.
+    pub(crate) fn is_silent(&self, now: Duration) -> bool {
+        self.rest == Rest::More && self.bytes.is_empty() && now >= self.ends
+    }
+}
+
+/// Reads once what has come, and says how many bytes.
+#[tactic(auto, using(crate::proofs::Comings::came_read, crate::proofs::Comings::came_by, crate::proofs::Comings::late_by, crate::proofs::Comings::grown, crate::proofs::Comings::no_more))]
+pub(crate) fn read_once<S: System>(system: &mut S, arriving: &mut Arriving<S::Stream>) -> usize
+    ensures came { (listener : Number) → HasCome S.Stream.raw_fd listener (S.calls system.old) arriving.old → HasCome S.Stream.raw_fd listener (S.calls system.new) arriving.new }
+    ensures grows { Grows arriving.old.bytes.items arriving.new.bytes.items }
+    ensures later { Later (S.calls system.old) (S.calls system.new) }
+{
+    let mut buf = [0u8; PIECE_BYTES];
+    match system.read(&arriving.stream, &mut buf) {
+        Ok(0) => arriving.rest = Rest::Ended,
+        Ok(n) => match arriving.bytes.extend_from_slice(&buf[..n]) {
+            Ok(()) => return n,
+            Err(_) => arriving.rest = Rest::Failed,
+        },
+        Err(fault) => {
+            if !passes(fault.kind()) {
+                arriving.rest = Rest::Failed;
+            }
+        }
+    }
+    0
+}
+
+/// Reads what has come, until its request is whole.
+#[tactic(auto, using(crate::proofs::Comings::as_late, crate::proofs::Comings::later_still))]
+pub(crate) fn read_aside<S: System>(
+    system: &mut S,
+    arriving: &mut Arriving<S::Stream>,
+    places: &mut [HeaderSpan],
+)
+    ensures came { (listener : Number) → HasCome S.Stream.raw_fd listener (S.calls system.old) arriving.old → HasCome S.Stream.raw_fd listener (S.calls system.new) arriving.new }
+    ensures later { Later (S.calls system.old) (S.calls system.new) }
+{
+    'reads: for _ in 0..u16::MAX {
+        if !arriving.is_coming() {
+            return;
+        }
+        let n = read_once(system, arriving);
+        arriving.stage = come_to(arriving.stage, arriving.bytes.as_slice(), places);
+        if n < PIECE_BYTES {
+            return;
+        }
+    }
+}
+
+/// Reads on until more than so many bytes came, or the connection ended or failed. Its time may be over before that.
+#[tactic(auto, using(crate::proofs::Comings::as_late, crate::proofs::Comings::late_by, crate::proofs::Comings::later_still, crate::proofs::Comings::still_came, crate::proofs::Comings::no_more, crate::proofs::Comings::grown_more))]
+pub(crate) fn read_on<S: System>(
+    system: &mut S,
+    arriving: &mut Arriving<S::Stream>,
+    had: usize,
+) -> io::Result<()>
+    ensures came { (listener : Number) → HasCome S.Stream.raw_fd listener (S.calls system.old) arriving.old → HasCome S.Stream.raw_fd listener (S.calls system.new) arriving.new }
+    ensures grows { Grows arriving.old.bytes.items arriving.new.bytes.items }
+    ensures later { Later (S.calls system.old) (S.calls system.new) }
+{
+    'reads: for _ in 0..u32::MAX {
+        if arriving.bytes.len() > had || arriving.rest != Rest::More {
+            return Ok(());
+        }
+        let millis = left(system, arriving.ends)?;
+        if read_once(system, arriving) == 0 && arriving.rest == Rest::More {
+            let mut asks = [asked(arriving.stream.as_raw_fd())];
+            system.poll(&mut asks, millis);
+        }
+    }
+    Err(ErrorKind::TimedOut.into())
+}

@@ -1,0 +1,343 @@
+//! Connections with bytes that leave: posts, and answers that weren't wholly out.
+
+ghost use Rattle.std.specs.Prelude.{◌≡◌, ◌<◌, List, IfSome, filter, length, not};
+ghost use Rattle.atx_sites.specs.Departures.{Advances, Answers, IfBegun, IsPart, Posts, PostsTo, Starts, WentAt, is_over};
+ghost use Rattle.atx_sites.specs.declared.outgoing.Outgoing.{Outgoing};
+
+use crate::outgoing::{self, Outgoing};
+use crate::resolved_names::{self, ResolvedNames};
+use libc::net::{POLLIN, POLLOUT};
+use libc::types::pollfd;
+use std::alloc::{AllocError, Global};
+use std::io::{self, ErrorKind};
+use std::net::SocketAddr;
+use std::os::fd::AsRawFd;
+use std::time::Duration;
+use system_calls::system::System;
+
+/// The most connections that leave.
+const MOST: usize = 1024;
+
+/// The most of them to one host, known by the first of its addresses.
+const MOST_TO_ONE: usize = 64;
+
+/// The most bytes of all of them.
+const MOST_BYTES: usize = 16 * 1024 * 1024;
+
+/// Connections with bytes that leave, of which none is waited for.
+///
+/// Where one more would be too many, one whose bytes are all out, and of which only what its peer answers is read away, is
+/// closed for it.
+#[derive(Drop)]
+pub struct Departures<C> {
+    alloc: Global,
+    pub(crate) leaving: Vec<Outgoing<C>>,
+    names: ResolvedNames,
+    /// How many were given up, or failed, before the system had all their bytes.
+    pub(crate) lost: u64,
+}
+
+impl<C: AsRawFd + Drop> Departures<C> {
+    /// Nothing leaves.
+    pub(crate) fn new(alloc: Global) -> Departures<C> {
+        Departures {
+            alloc,
+            leaving: Vec::new(alloc),
+            names: ResolvedNames::new(alloc),
+            lost: 0,
+        }
+    }
+
+    /// Whether nothing leaves.
+    pub(crate) fn is_empty(&self) -> bool {
+        self.leaving.is_empty()
+    }
+
+    /// When the next of them is given up.
+    pub(crate) fn earliest(&self) -> Option<Duration> {
+        let mut found: Option<Duration> = None;
+        for outgoing in self.leaving.iter() {
+            found = Some(sooner(found, outgoing.ends));
+        }
+        found
+    }
+
+    /// Adds what the system is to wait for.
+    pub(crate) fn asks(&self, asks: &mut Vec<pollfd>) -> Result<(), AllocError> {
+        for outgoing in self.leaving.iter() {
+            asks.push(asked(outgoing))?;
+        }
+        Ok(())
+    }
+}
+
+fn sooner(found: Option<Duration>, ends: Duration) -> Duration {
+    match found {
+        Some(soonest) if soonest <= ends => soonest,
+        _ => ends,
+    }
+}
+
+fn asked<C: AsRawFd + Drop>(outgoing: &Outgoing<C>) -> pollfd {
+    pollfd {
+        fd: outgoing.stream.as_raw_fd(),
+        events: if outgoing.is_ending() {
+            POLLIN
+        } else {
+            POLLOUT
+        },
+        revents: 0,
+    }
+}
+
+/// The bytes of all of them.
+fn bytes_of<C: Drop>(leaving: &[Outgoing<C>]) -> usize {
+    let mut sum: usize = 0;
+    for outgoing in leaving.iter() {
+        sum = sum.saturating_add(outgoing.bytes.len());
+    }
+    sum
+}
+
+/// Whether it goes to that host.
+fn goes_to<C: Drop>(outgoing: &Outgoing<C>, host: Option<SocketAddr>) -> bool {
+    outgoing.addresses.first().copied() == host
+}
+
+/// How many go to that host.
+fn count_to<C: Drop>(leaving: &[Outgoing<C>], host: Option<SocketAddr>) -> usize {
+    let mut count: usize = 0;
+    for outgoing in leaving.iter() {
+        if goes_to(outgoing, host) {
+            count = count.saturating_add(1);
+        }
+    }
+    count
+}
+
+/// The place of the oldest whose bytes are all out; of those to one host, where one is given.
+fn oldest_ending<C: Drop>(leaving: &[Outgoing<C>], host: Option<SocketAddr>) -> Option<usize>
+    ensures { IfSome result (λ i. i < length leaving.now) }
+{
+    for i in 0..leaving.len() {
+        let outgoing = &leaving[i];
+        if outgoing.is_ending() && (host.is_none() || goes_to(outgoing, host)) {
+            return Some(i);
+        }
+    }
+    None
+}
+
+/// Closes the oldest whose bytes are all out; of those to one host, where one is given. Whether there was one.
+#[tactic(auto, using(crate::proofs::DepartureLists::one_less))]
+fn close_ending<C: Drop>(leaving: &mut Vec<Outgoing<C>>, host: Option<SocketAddr>) -> bool
+    ensures { (first : List (Outgoing C)) → IsPart first leaving.old.items → IsPart first leaving.new.items }
+{
+    match oldest_ending(leaving, host) {
+        Some(at) => {
+            leaving.remove(at);
+            true
+        }
+        None => false,
+    }
+}
+
+/// Makes room for so many bytes. Whether there is some.
+fn has_room_for<C: Drop>(leaving: &mut Vec<Outgoing<C>>, bytes: usize) -> bool
+    ensures { (first : List (Outgoing C)) → IsPart first leaving.old.items → IsPart first leaving.new.items }
+{
+    'rooms: for _ in 0..MOST {
+        if bytes_of(leaving).saturating_add(bytes) <= MOST_BYTES {
+            return true;
+        }
+        if !close_ending(leaving, None) {
+            return false;
+        }
+    }
+    false
+}
+
+/// Makes room for one more, with so many bytes. Whether there is some.
+fn has_room<C: Drop>(leaving: &mut Vec<Outgoing<C>>, bytes: usize) -> bool
+    ensures { (first : List (Outgoing C)) → IsPart first leaving.old.items → IsPart first leaving.new.items }
+{
+    if leaving.len() >= MOST && !close_ending(leaving, None) {
+        return false;
+    }
+    has_room_for(leaving, bytes)
+}
+
+/// Makes room for one more to a host, with so many bytes. Whether there is some.
+fn has_room_to<C: Drop>(
+    leaving: &mut Vec<Outgoing<C>>,
+    host: Option<SocketAddr>,
+    bytes: usize,
+) -> bool
+    ensures { (first : List (Outgoing C)) → IsPart first leaving.old.items → IsPart first leaving.new.items }
+{
+    if count_to(leaving, host) >= MOST_TO_ONE && !close_ending(leaving, host) {
+        return false;
+    }
+    has_room(leaving, bytes)
+}
+
+/// A post to one of these addresses, whose connection is begun.
+fn begun<S: System>(
+    system: &mut S,
+    addresses: Vec<SocketAddr>,
+    bytes: Vec<u8>,
+    now: Duration,
+) -> Option<Outgoing<S::Stream>>
+    ensures { IfBegun S.Stream.raw_fd addresses.items bytes.items result (S.calls system.old) (S.calls system.new) }
+{
+    let mut next = 0;
+    match outgoing::connect(system, &addresses, &mut next) {
+        Some(stream) => Some(Outgoing::post(stream, addresses, next, bytes, now)),
+        None => None,
+    }
+}
+
+/// Lets one more go on, and puts it behind the others unless nothing is left to do. It fails where that was lost.
+fn start<S: System>(
+    system: &mut S,
+    leaving: &mut Vec<Outgoing<S::Stream>>,
+    mut outgoing: Outgoing<S::Stream>,
+    now: Duration,
+) -> io::Result<()>
+    ensures { Starts S.Stream.raw_fd outgoing (S.calls system.old) result leaving.old.items leaving.new.items (S.calls system.new) }
+{
+    outgoing::go(system, &mut outgoing, now);
+    if outgoing.is_over() {
+        if outgoing.is_out() {
+            return Ok(());
+        }
+        return Err(ErrorKind::HostUnreachable.into());
+    }
+    if leaving.push(outgoing).is_err() {
+        return Err(ErrorKind::OutOfMemory.into());
+    }
+    Ok(())
+}
+
+/// Posts to the first of these addresses to which a connection can be begun.
+fn post_to<S: System>(
+    system: &mut S,
+    leaving: &mut Vec<Outgoing<S::Stream>>,
+    addresses: Vec<SocketAddr>,
+    bytes: Vec<u8>,
+    now: Duration,
+) -> io::Result<()>
+    ensures { PostsTo S.Stream.raw_fd addresses.items bytes.items leaving.old.items (S.calls system.old) result leaving.new.items (S.calls system.new) }
+{
+    if !has_room_to(leaving, addresses.first().copied(), bytes.len()) {
+        return Err(ErrorKind::QuotaExceeded.into());
+    }
+    match begun(system, addresses, bytes, now) {
+        Some(outgoing) => start(system, leaving, outgoing, now),
+        None => Err(ErrorKind::HostUnreachable.into()),
+    }
+}
+
+/// Posts bytes to a host, and waits for nobody but for a name to be looked up. After Ok the bytes are out or leave. After a
+/// failure the peer may have a beginning of them.
+pub(crate) fn post<S: System>(
+    system: &mut S,
+    departures: &mut Departures<S::Stream>,
+    host: &str,
+    port: u16,
+    bytes: &[u8],
+) -> io::Result<()>
+    ensures { Posts S.Stream.raw_fd port bytes.now departures.old.leaving.items (S.calls system.old) result departures.new.leaving.items (S.calls system.new) }
+{
+    let Ok(addresses) = resolved_names::addresses(system, &mut departures.names, host, port) else {
+        return Err(ErrorKind::HostUnreachable.into());
+    };
+    let Ok(now) = system.monotonic() else {
+        return Err(ErrorKind::Other.into());
+    };
+    let Ok(bytes) = Vec::from_slice(departures.alloc, bytes) else {
+        return Err(ErrorKind::OutOfMemory.into());
+    };
+    post_to(system, &mut departures.leaving, addresses, bytes, now)
+}
+
+/// Takes over a connection with its answer, of which the system took `done` bytes. It is closed behind the answer. Where there
+/// is no room, it is closed at once.
+pub(crate) fn answer<S: System>(
+    system: &mut S,
+    departures: &mut Departures<S::Stream>,
+    stream: S::Stream,
+    bytes: Vec<u8>,
+    done: usize,
+)
+    ensures { Answers S.Stream.raw_fd stream bytes done departures.old.leaving.items (S.calls system.old) departures.new.leaving.items (S.calls system.new) }
+{
+    let Ok(now) = system.monotonic() else {
+        return;
+    };
+    if !has_room(&mut departures.leaving, bytes.len()) {
+        return;
+    }
+    let outgoing = Outgoing::answer(departures.alloc, stream, bytes, done, now);
+    if start(system, &mut departures.leaving, outgoing, now).is_err() {
+        departures.lost = departures.lost.saturating_add(1);
+    }
+}
+
+/// How many were lost.
+fn count_lost<C: Drop>(leaving: &[Outgoing<C>]) -> u64 {
+    let mut count: u64 = 0;
+    for outgoing in leaving.iter() {
+        if outgoing.is_lost() {
+            count = count.saturating_add(1);
+        }
+    }
+    count
+}
+
+/// Closes those with nothing left to do.
+fn close_over<C: Drop>(leaving: &mut Vec<Outgoing<C>>)
+    ensures { leaving.new.items ≡ filter (λ o. not (is_over o)) leaving.old.items }
+{
+    leaving.retain(|outgoing| !outgoing.is_over());
+}
+
+/// Lets one go on.
+fn go_at<S: System>(
+    system: &mut S,
+    leaving: &mut Vec<Outgoing<S::Stream>>,
+    place: usize,
+    now: Duration,
+)
+    requires { place < length leaving.old.items }
+    ensures { WentAt S.Stream.raw_fd place leaving.old.items (S.calls system.old) leaving.new.items (S.calls system.new) }
+{
+    let outgoing = &mut leaving[place];
+    outgoing::go(system, outgoing, now);
+}
+
+/// Lets each go on.
+#[tactic(auto, using(crate::proofs::DepartureLists::none_advance, crate::proofs::DepartureLists::all_advance))]
+fn go_each<S: System>(system: &mut S, leaving: &mut Vec<Outgoing<S::Stream>>, now: Duration)
+    ensures { Advances S.Stream.raw_fd (S.calls system.old) leaving.old.items leaving.new.items (S.calls system.new) }
+{
+    'places: for place in 0..leaving.len() {
+        go_at(system, leaving, place, now);
+    }
+}
+
+/// Lets each go on as far as it can without waiting, gives up those whose time is over, and closes those that are done.
+pub(crate) fn advance<S: System>(
+    system: &mut S,
+    departures: &mut Departures<S::Stream>,
+    now: Duration,
+)
+    ensures { (went : List (Outgoing S.Stream)) × Advances S.Stream.raw_fd (S.calls system.old) departures.old.leaving.items went (S.calls system.new)
+        × (departures.new.leaving.items ≡ filter (λ o. not (is_over o)) went) }
+{
+    go_each(system, &mut departures.leaving, now);
+    departures.lost = departures
+        .lost
+        .saturating_add(count_lost(&departures.leaving));
+    close_over(&mut departures.leaving);
+}

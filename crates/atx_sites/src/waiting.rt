@@ -1,0 +1,317 @@
+//! Connections that are read aside, each until its turn.
+
+ghost use Rattle.std.specs.Prelude.{◌<◌, [], ◌≡◌, IfSome, length};
+ghost use Rattle.system_calls.specs.Calls.{Calls, Number};
+ghost use Rattle.atx_sites.specs.Arrivals.{HasCome, HaveCome, IfCame};
+ghost use Rattle.atx_sites.specs.LinkCalls.{Came, Later};
+
+use crate::arriving::{Arriving, asked, read_aside};
+use crate::deadlines::earlier;
+use crate::framing::FIELDS;
+use httparse::spans::{EMPTY_HEADER_SPAN, HeaderSpan};
+use libc::types::pollfd;
+use std::alloc::{AllocError, Global};
+use std::io::{self, ErrorKind};
+use std::os::fd::AsRawFd;
+use std::time::Duration;
+use system_calls::system::System;
+
+/// The most connections that are read aside.
+const MOST: usize = 1024;
+
+/// The most bytes that are read aside of all connections.
+const MOST_BYTES: usize = 67_108_864;
+
+/// The seconds in which a whole request must come.
+const REQUEST_SECONDS: u64 = 10;
+
+/// The milliseconds for which accept isn't called again where the system lacked something.
+const PAUSE_MILLIS: u64 = 100;
+
+/// Connections that are read aside, in the order in which they were accepted. A peer that is slow or silent waits there
+/// alone.
+#[derive(Drop)]
+pub struct Waiting<C> {
+    alloc: Global,
+    arriving: Vec<Arriving<C>>,
+    places: Vec<HeaderSpan>,
+    pause: Option<Duration>,
+}
+
+/// Whether accept failed as nobody has come, or by the fault of one connection, or of the network on its way.
+fn is_passing(kind: ErrorKind) -> bool {
+    matches!(
+        kind,
+        ErrorKind::WouldBlock
+            | ErrorKind::ConnectionAborted
+            | ErrorKind::ConnectionReset
+            | ErrorKind::Interrupted
+            | ErrorKind::TimedOut
+            | ErrorKind::NetworkDown
+            | ErrorKind::NetworkUnreachable
+            | ErrorKind::HostUnreachable
+    )
+}
+
+/// Whether accept failed by a want of the system that passes, or by a fault of the network that may stay for a while:
+/// EPERM, ENOMEM, ENFILE, EMFILE, ENONET, EPROTO, EOPNOTSUPP, ENOBUFS, EHOSTDOWN.
+fn is_wanting(fault: &io::Error) -> bool {
+    matches!(
+        fault.raw_os_error(),
+        Some(1 | 12 | 23 | 24 | 64 | 71 | 95 | 105 | 112)
+    )
+}
+
+impl<C: AsRawFd + Drop> Waiting<C> {
+    pub(crate) fn new(alloc: Global) -> Waiting<C> {
+        Waiting {
+            alloc,
+            arriving: Vec::new(alloc),
+            places: Vec::new(alloc),
+            pause: None,
+        }
+    }
+
+    /// Closes all of them, and makes room for the fields of a head.
+    pub(crate) fn begin(&mut self) -> Result<(), AllocError>
+        ensures { self.new.arriving.items ≡ [] }
+    {
+        self.arriving.clear();
+        self.pause = None;
+        self.places.resize(FIELDS, EMPTY_HEADER_SPAN)
+    }
+
+    pub(crate) fn alloc(&self) -> Global {
+        self.alloc
+    }
+
+    /// Whether accepting pauses, and may go on.
+    pub(crate) fn may_go_on(&self, now: Duration) -> bool {
+        match self.pause {
+            Some(until) => now >= until,
+            None => false,
+        }
+    }
+
+    /// When the next of them has been read for long enough, or the listener is asked again.
+    pub(crate) fn earliest(&self) -> Option<Duration> {
+        let mut earliest = self.pause;
+        for arriving in self.arriving.iter() {
+            earliest = earlier(earliest, Some(arriving.ends));
+        }
+        earliest
+    }
+
+    /// Adds what poll is to wait for: a new connection, unless accepting pauses, and something to read on each.
+    pub(crate) fn asks(&self, listener: i32, asks: &mut Vec<pollfd>) -> Result<(), AllocError> {
+        asks.push(asked(if self.pause.is_none() { listener } else { -1 }))?;
+        for arriving in self.arriving.iter() {
+            asks.push(asked(arriving.stream.as_raw_fd()))?;
+        }
+        Ok(())
+    }
+
+    /// Closes those whose time is over without a byte.
+    #[tactic(auto, using(crate::proofs::Comings::have_removed))]
+    fn close_silent(&mut self, now: Duration)
+        ensures { (number : C → Number) (listener : Number) (calls : Calls) → HaveCome number listener calls self.old.arriving.items → HaveCome number listener calls self.new.arriving.items }
+    {
+        'silent: for _ in 0..MOST {
+            match place_of_silent(self.arriving.as_slice(), now) {
+                Some(place) => drop(self.arriving.remove(place)),
+                None => return,
+            }
+        }
+    }
+
+    /// Whether the turn of one may come.
+    pub(crate) fn has_ready(&self, now: Duration) -> bool {
+        place_of_ready(self.arriving.as_slice(), now).is_some()
+    }
+
+    /// The first whose turn may come.
+    #[tactic(auto, using(crate::proofs::Comings::have_removed, crate::proofs::Comings::has_taken))]
+    pub(crate) fn ready(&mut self, now: Duration) -> Option<Arriving<C>>
+        ensures came { (number : C → Number) (listener : Number) (calls : Calls) → HaveCome number listener calls self.old.arriving.items → HaveCome number listener calls self.new.arriving.items }
+        ensures taken { (number : C → Number) (listener : Number) (calls : Calls) → HaveCome number listener calls self.old.arriving.items → IfSome result (HasCome number listener calls) }
+    {
+        self.close_silent(now);
+        match place_of_ready(self.arriving.as_slice(), now) {
+            Some(place) => Some(self.arriving.remove(place)),
+            None => None,
+        }
+    }
+
+    /// The bytes of all.
+    fn bytes(&self) -> usize {
+        let mut bytes = 0usize;
+        for arriving in self.arriving.iter() {
+            bytes = bytes.saturating_add(arriving.bytes.len());
+        }
+        bytes
+    }
+
+    /// Makes room for one more: where too many wait, the oldest whose turn can't come yet is closed. Whether there is some.
+    #[tactic(auto, using(crate::proofs::Comings::have_removed))]
+    fn has_room(&mut self, now: Duration) -> bool
+        ensures { (number : C → Number) (listener : Number) (calls : Calls) → HaveCome number listener calls self.old.arriving.items → HaveCome number listener calls self.new.arriving.items }
+    {
+        if self.arriving.len() < MOST {
+            return true;
+        }
+        match place_of_coming(self.arriving.as_slice(), now) {
+            Some(place) => {
+                drop(self.arriving.remove(place));
+                true
+            }
+            None => false,
+        }
+    }
+
+    /// Keeps one more, where there is room and memory for it, and where all have not too many bytes then.
+    #[tactic(auto, using(crate::proofs::Comings::have_pushed))]
+    fn keep(&mut self, arriving: Arriving<C>, now: Duration)
+        ensures { (number : C → Number) (listener : Number) (calls : Calls) → HaveCome number listener calls self.old.arriving.items → HasCome number listener calls arriving → HaveCome number listener calls self.new.arriving.items }
+    {
+        if self.has_room(now) && self.bytes().saturating_add(arriving.bytes.len()) <= MOST_BYTES {
+            let _ = self.arriving.push(arriving);
+        }
+    }
+}
+
+/// The first whose time is over without a byte.
+fn place_of_silent<C>(arrivals: &[Arriving<C>], now: Duration) -> Option<usize>
+    ensures { IfSome result (λ i. i < length arrivals.now) }
+{
+    for i in 0..arrivals.len() {
+        if arrivals[i].is_silent(now) {
+            return Some(i);
+        }
+    }
+    None
+}
+
+/// The first whose turn may come.
+fn place_of_ready<C>(arrivals: &[Arriving<C>], now: Duration) -> Option<usize>
+    ensures { IfSome result (λ i. i < length arrivals.now) }
+{
+    for i in 0..arrivals.len() {
+        if arrivals[i].is_ready(now) {
+            return Some(i);
+        }
+    }
+    None
+}
+
+/// The first whose turn can't come yet.
+fn place_of_coming<C>(arrivals: &[Arriving<C>], now: Duration) -> Option<usize>
+    ensures { IfSome result (λ i. i < length arrivals.now) }
+{
+    for i in 0..arrivals.len() {
+        if !arrivals[i].is_ready(now) {
+            return Some(i);
+        }
+    }
+    None
+}
+
+/// Reads aside what came on one of them. Where all have too many bytes then, it is closed. Whether it is still there.
+#[tactic(auto, using(crate::proofs::Comings::have_still, crate::proofs::Comings::have_set, crate::proofs::Comings::has_taken, crate::proofs::Comings::have_removed))]
+fn read_at<S: System>(system: &mut S, waiting: &mut Waiting<S::Stream>, place: usize) -> bool
+    requires { place < length waiting.old.arriving.items }
+    ensures came { (listener : Number) → HaveCome S.Stream.raw_fd listener (S.calls system.old) waiting.old.arriving.items → HaveCome S.Stream.raw_fd listener (S.calls system.new) waiting.new.arriving.items }
+    ensures later { Later (S.calls system.old) (S.calls system.new) }
+{
+    read_aside(
+        system,
+        &mut waiting.arriving[place],
+        waiting.places.as_mut_slice(),
+    );
+    if waiting.bytes() <= MOST_BYTES {
+        return true;
+    }
+    drop(waiting.arriving.remove(place));
+    false
+}
+
+/// Reads aside what poll found on each of them.
+#[tactic(auto, using(crate::proofs::Comings::as_late, crate::proofs::Comings::later_still))]
+pub(crate) fn read_found<S: System>(
+    system: &mut S,
+    waiting: &mut Waiting<S::Stream>,
+    found: &[pollfd],
+)
+    ensures came { (listener : Number) → HaveCome S.Stream.raw_fd listener (S.calls system.old) waiting.old.arriving.items → HaveCome S.Stream.raw_fd listener (S.calls system.new) waiting.new.arriving.items }
+    ensures later { Later (S.calls system.old) (S.calls system.new) }
+{
+    let mut place = 0;
+    'found: for ask in found {
+        if place >= waiting.arriving.len() {
+            return;
+        }
+        if ask.revents == 0 || read_at(system, waiting, place) {
+            place += 1;
+        }
+    }
+}
+
+/// Accepts a connection, if one has come. Where the system lacks something, accepting pauses.
+#[tactic(auto, using(crate::proofs::Comings::came_first, crate::proofs::Comings::late_by))]
+fn accept_one<S: System>(
+    system: &mut S,
+    listener: &S::Listener,
+    pause: &mut Option<Duration>,
+    now: Duration,
+) -> io::Result<Option<S::Stream>>
+    ensures came { IfCame S.Stream.raw_fd (S.Listener.raw_fd listener.now) (S.calls system.new) result }
+    ensures later { Later (S.calls system.old) (S.calls system.new) }
+{
+    match system.accept(listener) {
+        Ok((stream, _)) => Ok(Some(stream)),
+        Err(fault) if is_passing(fault.kind()) => Ok(None),
+        Err(fault) if is_wanting(&fault) => {
+            *pause = Some(now.saturating_add(Duration::from_millis(PAUSE_MILLIS)));
+            Ok(None)
+        }
+        Err(fault) => Err(fault),
+    }
+}
+
+/// Reads aside what came on a connection that was accepted, and keeps it.
+#[tactic(auto, using(crate::proofs::Comings::have_still))]
+fn begin<S: System>(
+    system: &mut S,
+    waiting: &mut Waiting<S::Stream>,
+    stream: S::Stream,
+    now: Duration,
+)
+    ensures came { (listener : Number) → Came listener (S.Stream.raw_fd stream) [] (S.calls system.old) → HaveCome S.Stream.raw_fd listener (S.calls system.old) waiting.old.arriving.items → HaveCome S.Stream.raw_fd listener (S.calls system.new) waiting.new.arriving.items }
+    ensures later { Later (S.calls system.old) (S.calls system.new) }
+{
+    let ends = now.saturating_add(Duration::from_secs(REQUEST_SECONDS));
+    let mut arriving = Arriving::new(waiting.alloc, stream, ends);
+    read_aside(system, &mut arriving, waiting.places.as_mut_slice());
+    waiting.keep(arriving, now);
+}
+
+/// Accepts the connections that have come, and reads aside what came on them.
+#[tactic(auto, using(crate::proofs::Comings::as_late, crate::proofs::Comings::later_still, crate::proofs::Comings::have_still))]
+pub(crate) fn accept_all<S: System>(
+    system: &mut S,
+    waiting: &mut Waiting<S::Stream>,
+    listener: &S::Listener,
+    now: Duration,
+) -> io::Result<()>
+    ensures came { HaveCome S.Stream.raw_fd (S.Listener.raw_fd listener.now) (S.calls system.old) waiting.old.arriving.items → HaveCome S.Stream.raw_fd (S.Listener.raw_fd listener.now) (S.calls system.new) waiting.new.arriving.items }
+    ensures later { Later (S.calls system.old) (S.calls system.new) }
+{
+    waiting.pause = None;
+    'accepted: for _ in 0..MOST {
+        match accept_one(system, listener, &mut waiting.pause, now) {
+            Ok(Some(stream)) => begin(system, waiting, stream, now),
+            Ok(None) => return Ok(()),
+            Err(fault) => return Err(fault),
+        }
+    }
+    Ok(())
+}
