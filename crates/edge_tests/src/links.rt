@@ -1,0 +1,301 @@
+//! The connections and the posts of a machine: calls that fail, move little or would wait, and peers that are slow.
+
+use crate::posts::{ANSWER, POST, address, start, world};
+use atx_sites::node_site::NodeSite;
+use site_model::site::{Site, Taken};
+use site_model::source::Failed;
+use std::alloc::{AllocError, Global};
+use std::test::Fail;
+use std::time::Duration;
+use system_memory::memory::MemorySystem;
+use system_memory::peer::{Begin, End, Peer};
+use system_memory::script::{Act, Name, Rule};
+use system_memory::world::World;
+
+/// Errors of calls by their numbers.
+const EINTR: i32 = 4;
+
+const EBADF: i32 = 9;
+
+const EAGAIN: i32 = 11;
+
+const ENOBUFS: i32 = 105;
+
+/// A whole request, and its parts.
+const WHOLE: &[u8] = b"POST /a HTTP/1.1\r\nContent-Length: 5\r\n\r\nhello";
+
+const FRONT: &[u8] = b"POST /a HTTP/1.1\r\nContent-";
+
+const BACK: &[u8] = b"Length: 5\r\n\r\nhello";
+
+/// Another.
+const OTHER: &[u8] = b"POST /b HTTP/1.1\r\nContent-Length: 2\r\n\r\nhi";
+
+/// Calls of this name, from the n-th on each `every`-th.
+fn each(name: Name, n: usize, every: usize, act: Act) -> Rule {
+    Rule {
+        name: Some(name),
+        n,
+        every,
+        act,
+    }
+}
+
+/// The time so many milliseconds behind the start.
+fn at(millis: u64) -> Duration {
+    start().saturating_add(Duration::from_millis(millis))
+}
+
+/// A peer that comes, and sends these bytes at a time.
+fn sender(alloc: Global, comes: u64, sends: u64, bytes: &[u8]) -> Result<Peer, AllocError> {
+    let mut peer = Peer::coming(alloc, address(1), at(comes));
+    peer.sends(alloc, at(sends), bytes)?;
+    Ok(peer)
+}
+
+/// Takes the next connection. Whether all that it brings until these bytes are there are these.
+fn hears<S: Site>(site: &mut S, bytes: &[u8]) -> bool {
+    if site.take() != Ok(Taken::Opened) {
+        return false;
+    }
+    let mut rest = bytes;
+    let mut buf = [0u8; 64];
+    for _ in 0..64 {
+        if rest.is_empty() {
+            return true;
+        }
+        let n = site.receive(&mut buf).unwrap_or(0);
+        match rest.strip_prefix(&buf[..n.min(64)]) {
+            Some(more) if n > 0 => rest = more,
+            _ => return false,
+        }
+    }
+    false
+}
+
+/// The first of two peers sends its request in two parts, and the second its at once; a third is posted to.
+fn three(alloc: Global) -> Result<World, AllocError> {
+    let mut world = world(alloc);
+    let mut first = sender(alloc, 0, 0, FRONT)?;
+    first.sends(alloc, at(30), BACK)?;
+    world.peer(first)?;
+    world.peer(sender(alloc, 10, 10, OTHER)?)?;
+    world.peer(Peer::found(alloc, address(9), Begin::At(at(50))))?;
+    Ok(world)
+}
+
+/// Serves both, and posts between.
+fn serves(alloc: Global, system: &mut MemorySystem) -> bool {
+    let mut site = NodeSite::new(alloc, system);
+    let attached = site.attach("d/j", "127.0.0.1:9").is_ok();
+    let second = hears(&mut site, OTHER) && site.send(b"HTTP/1.1 ").is_ok();
+    let posted = site.post("10.0.0.9", 80, POST).is_ok();
+    let answered = site.send(ANSWER).is_ok();
+    site.close();
+    let first = hears(&mut site, WHOLE) && site.send(ANSWER).is_ok();
+    site.close();
+    site.leave();
+    attached && second && posted && answered && first && site.lost() == 0
+}
+
+/// Whether each has what was meant for it, whole and once.
+fn arrives(alloc: Global, rules: &[Rule]) -> Result<bool, AllocError> {
+    let mut world = three(alloc)?;
+    for rule in rules.iter() {
+        world.rule(*rule)?;
+    }
+    let mut system = MemorySystem::new(world);
+    let served = serves(alloc, &mut system);
+    match system.world().peers() {
+        [first, second, third] => Ok(
+            served
+                && first.took() == ANSWER
+                && second.took().strip_prefix(b"HTTP/1.1 ") == Some(ANSWER)
+                && third.took() == POST
+                && first.is_shut()
+                && second.is_shut()
+                && !third.is_shut(),
+        ),
+        _ => Ok(false),
+    }
+}
+
+/// What befalls the first call of a name, and each so many calls behind it.
+const BEFALLS: &[(Name, usize, Act)] = &[
+    (Name::Write, 1, Act::AtMost(usize::MAX)),
+    (Name::Write, 2, Act::Fail(EINTR)),
+    (Name::Write, 3, Act::Fail(EAGAIN)),
+    (Name::Read, 1, Act::AtMost(1)),
+    (Name::Read, 3, Act::Fail(EINTR)),
+    (Name::Read, 3, Act::Fail(EAGAIN)),
+    (Name::Poll, 2, Act::Fail(EINTR)),
+    (Name::Accept, 2, Act::Fail(EINTR)),
+];
+
+#[test]
+fn answers_and_posts_arrive_whole_and_once(rt: HostRuntime) -> Result<(), Fail> {
+    for (name, every, act) in BEFALLS {
+        let rules = [
+            each(*name, 1, *every, *act),
+            each(Name::Write, 1, 1, Act::AtMost(1)),
+        ];
+        let alone = arrives(rt.alloc(), &rules[..1])?;
+        let short = arrives(rt.alloc(), &rules)?;
+        assert!(rt; alone && short, "{name:?} {every} {act:?}");
+    }
+    Ok(())
+}
+
+/// A request whose body waits for an interim answer.
+const HEAD: &[u8] = b"POST /d HTTP/1.1\r\nExpect: 100-continue\r\nContent-Length: 2\r\n\r\n";
+
+/// Peers of which one is silent, one stops in the middle, one is reset there, two are whole later, one ends without a byte, and
+/// one waits for an interim answer.
+fn slow(alloc: Global) -> Result<World, AllocError> {
+    let mut world = world(alloc);
+    world.peer(Peer::coming(alloc, address(1), at(0)))?;
+    world.peer(sender(alloc, 0, 0, FRONT)?)?;
+    let mut reset = sender(alloc, 0, 0, FRONT)?;
+    reset.ends(End::Reset(at(3000)));
+    world.peer(reset)?;
+    world.peer(sender(alloc, 0, 1000, OTHER)?)?;
+    world.peer(sender(alloc, 2000, 2000, WHOLE)?)?;
+    let mut ended = Peer::coming(alloc, address(2), at(0));
+    ended.ends(End::Closed(at(4000)));
+    world.peer(ended)?;
+    let mut waits = sender(alloc, 5000, 5000, HEAD)?;
+    waits.sends(alloc, at(5500), b"ok")?;
+    world.peer(waits)?;
+    Ok(world)
+}
+
+/// Whether the next connection brings these bytes, at a time in milliseconds.
+fn hears_at<S: Site>(site: &mut S, bytes: &[u8], millis: u64) -> bool {
+    hears(site, bytes) && site.now() == millis.saturating_add(1_000_000)
+}
+
+/// Whether the connection brings nothing more than this, at a time in milliseconds.
+fn ends_at<S: Site>(site: &mut S, end: Result<usize, Failed>, millis: u64) -> bool {
+    site.receive(&mut [0u8; 9]) == end && site.now() == millis.saturating_add(1_000_000)
+}
+
+/// Each takes its turn when it can, and the silent one none.
+fn turns(alloc: Global) -> Result<bool, AllocError> {
+    let mut system = MemorySystem::new(slow(alloc)?);
+    let mut site = NodeSite::new(alloc, &mut system);
+    let attached = site.attach("d/j", "127.0.0.1:9").is_ok();
+    let whole = hears_at(&mut site, OTHER, 1000) && hears_at(&mut site, WHOLE, 2000);
+    let reset = hears_at(&mut site, FRONT, 3000) && ends_at(&mut site, Err(Failed), 3000);
+    let ended = hears_at(&mut site, b"", 4000) && ends_at(&mut site, Ok(0), 4000);
+    let waits = hears_at(&mut site, HEAD, 5000) && ends_at(&mut site, Ok(2), 5500);
+    let stopped = hears_at(&mut site, FRONT, 10_000) && ends_at(&mut site, Err(Failed), 10_000);
+    let none = site.take().is_err();
+    drop(site);
+    let over = system.world().is_over();
+    Ok(attached && whole && reset && ended && waits && stopped && none && over)
+}
+
+#[test]
+fn nobody_is_waited_for(rt: HostRuntime) -> Result<(), Fail> {
+    let right = turns(rt.alloc())?;
+    assert!(rt; right, "turns");
+    Ok(())
+}
+
+/// An answer of which a write failed is cut there, and nothing more is sent on its connection.
+fn cut(alloc: Global) -> Result<bool, AllocError> {
+    let mut world = world(alloc);
+    world.peer(sender(alloc, 0, 0, OTHER)?)?;
+    world.rule(each(Name::Write, 5, 0, Act::Fail(ENOBUFS)))?;
+    world.rule(each(Name::Write, 1, 1, Act::AtMost(1)))?;
+    let mut system = MemorySystem::new(world);
+    let mut site = NodeSite::new(alloc, &mut system);
+    let attached = site.attach("d/j", "127.0.0.1:9").is_ok();
+    let failed = hears(&mut site, OTHER) && site.send(ANSWER).is_err();
+    let again = site.send(ANSWER).is_err();
+    site.close();
+    site.leave();
+    drop(site);
+    match system.world().peers() {
+        [peer] => Ok(attached && failed && again && peer.took() == b"HTTP".as_slice()),
+        _ => Ok(false),
+    }
+}
+
+#[test]
+fn a_cut_answer_stays_cut(rt: HostRuntime) -> Result<(), Fail> {
+    let right = cut(rt.alloc())?;
+    assert!(rt; right, "cut");
+    Ok(())
+}
+
+/// What a listener's first call that fails so makes of the first turn: when it comes, in milliseconds, or that none does.
+const ACCEPTS: &[(i32, Option<u64>)] = &[
+    // the process or the system lacks something, or the network does
+    (24, Some(100)),
+    (23, Some(100)),
+    (105, Some(100)),
+    (12, Some(100)),
+    (1, Some(100)),
+    (71, Some(100)),
+    (112, Some(100)),
+    (64, Some(100)),
+    (95, Some(100)),
+    // one connection failed
+    (103, Some(0)),
+    (EINTR, Some(0)),
+    // it is no listener
+    (EBADF, None),
+];
+
+/// When the first turn comes, and how often was accepted till then.
+fn first_turn(alloc: Global, code: i32) -> Result<(Option<u64>, usize), AllocError> {
+    let mut world = world(alloc);
+    world.peer(sender(alloc, 0, 0, OTHER)?)?;
+    world.rule(each(Name::Accept, 1, 0, Act::Fail(code)))?;
+    let mut system = MemorySystem::new(world);
+    let mut site = NodeSite::new(alloc, &mut system);
+    let attached = site.attach("d/j", "127.0.0.1:9").is_ok();
+    let time = if attached && hears(&mut site, OTHER) {
+        Some(site.now().saturating_sub(1_000_000))
+    } else {
+        None
+    };
+    drop(site);
+    Ok((time, system.world().count(Name::Accept)))
+}
+
+#[test]
+fn what_accept_lacks_is_waited_out(rt: HostRuntime) -> Result<(), Fail> {
+    for (code, turn) in ACCEPTS {
+        let (time, accepts) = first_turn(rt.alloc(), *code)?;
+        assert!(rt; time == *turn && accepts <= 3, "error {code}");
+    }
+    Ok(())
+}
+
+/// The most connections that are read aside.
+const MOST: usize = 1024;
+
+/// One connection more than are read aside: the oldest is closed, and those behind it are served.
+fn crowded(alloc: Global) -> Result<bool, AllocError> {
+    let mut world = world(alloc);
+    world.peer(sender(alloc, 0, 1000, FRONT)?)?;
+    world.peer(sender(alloc, 0, 2000, OTHER)?)?;
+    for _ in 1..MOST {
+        world.peer(Peer::coming(alloc, address(1), at(0)))?;
+    }
+    let mut system = MemorySystem::new(world);
+    let mut site = NodeSite::new(alloc, &mut system);
+    let attached = site.attach("d/j", "127.0.0.1:9").is_ok();
+    let second = hears_at(&mut site, OTHER, 2000);
+    let none = site.take().is_err();
+    Ok(attached && second && none)
+}
+
+#[test]
+fn the_oldest_makes_room(rt: HostRuntime) -> Result<(), Fail> {
+    let right = crowded(rt.alloc())?;
+    assert!(rt; right, "crowded");
+    Ok(())
+}
