@@ -80,8 +80,8 @@ serves participant 2
 {
   answers 'a client of plain HTTP' http://coordinator:443/tick
   answers 'a client without a certificate' --cacert "$room/authority.pem" https://coordinator/tick
-  answers "a client with another authority's" --cacert "$room/authority.pem" --cert "$room/intruder.pem" --key "$room/intruder.key" \
-    https://coordinator/tick
+  answers "a client with another authority's" --cacert "$room/authority.pem" --cert "$room/intruder.pem" \
+    --key "$room/intruder.key" https://coordinator/tick
   answers 'a client with a certificate' --cacert "$room/authority.pem" --cert "$room/machine.pem" --key "$room/machine.key" \
     https://coordinator/tick
 } >"$room/clients.out"
