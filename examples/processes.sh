@@ -1,5 +1,5 @@
-# What serve.sh, crash.sh and shop.sh share: processes that run beside the script, and what they print. The script names the
-# repository in `top` first.
+# What serve.sh, crash.sh, shop.sh and tls.sh share: processes that run beside the script, and what they print. The script names
+# the repository in `top` first.
 room=$(mktemp -d) || exit 1
 failed=0
 # the nodes end with the script, whose status is 1 where something was wrong
