@@ -1,7 +1,7 @@
 #!/usr/bin/env python3
 """Has atx take the largest of everything that it takes, at once, and says how long each takes, how much memory, and how much stack.
 
-    bench/largest.py [FOLDER]
+    bench/largest.py [FOLDER] [NAME..]
 
     check, cell     an envelope of 65,536 bytes, 4,096 elements, 32 levels and 32 attributes on an element, with a Key and a Value of 256
                     bytes, an Identifier of 2,048 and endpoints of 2,048, whose reference parameters reach the deepest level
@@ -11,12 +11,12 @@
                     voted, and stand in one record; one more is refused. Then the coordinator comes up again with that record
     replay          10,000 lines
     4 GiB           a journal of 4,294,967,285 bytes, where a file may have 4,294,967,295 and a start takes 10. It is written into FOLDER,
-                    needs 5 GiB there and some 12 GiB of memory, and is left out where no FOLDER is named
+                    needs 5 GiB there and some 12 GiB of memory, and is left out where no FOLDER (with a `/`) is named
 
 Each is printed with the seconds of a processor that it took, its memory at most, and its least stack: the smallest limit of the stack
 (`ulimit -s`, in steps of 4 KiB) with which it still passes. Below that the system ends the program by a signal. The journal of 4 GiB is
 started once more with the least stack that one of 8 MiB wants. It stands outside the gate, and wants a built `atx` (or another
-program, that ATX names) and `cc`; ports 9301 and 9308 are to be free.
+program, that ATX names) and `cc`; ports 9311 and 9312 are to be free.
 """
 import os
 import re
@@ -30,7 +30,7 @@ import time
 
 TOP = os.path.dirname(os.path.dirname(os.path.abspath(__file__)))
 ATX = os.environ.get("ATX", os.path.join(TOP, "crates", "atx", "out", "atx"))
-NODE, PEER = 9301, 9308
+NODE, PEER = 9311, 9312
 SOAP = "http://schemas.xmlsoap.org/soap/envelope/"
 WSA = "http://www.w3.org/2005/08/addressing"
 COOR = "http://docs.oasis-open.org/ws-tx/wscoor/2006/06"
@@ -300,16 +300,13 @@ def seating(peer):
             raise Unfit("there is a seat more")
         return completion, seats
 
-    def commit(it, completion, seats):
+    def commit(completion, seats):
         answered(notice(completion, "Commit"), 202)
-        peer.wait(SEATS, it)
         for seat in seats:
             answered(notice(seat, "Prepared"), 202)
-        peer.wait(2 * SEATS + 1, it)
 
-    def recover(it, seats):
+    def recover(seats):
         answered(posted("/tick", b""), 202)
-        peer.wait(3 * SEATS + 1, it)
         for seat in seats:
             answered(notice(seat, "Committed"), 202)
 
@@ -321,20 +318,21 @@ def seating(peer):
             try:
                 it.is_up()
                 completion, seats = begin()
-                commit(it, completion, seats)
+                commit(completion, seats)
             except Gone:
                 pass
             if it.ended().status:
                 return it
-            if os.path.getsize(journal) < SEATS * 2048:
-                raise Unfit(f"its journal has {os.path.getsize(journal)} bytes")
+            if it.printed() != b"up 1\nroot 1-1 committed\n" or os.path.getsize(journal) < SEATS * 2048:
+                raise Unfit(f"it printed {it.printed()!r}, and its journal has {os.path.getsize(journal)} bytes")
             again = serve(stack, "coordinator", journal, SEATS + 1)
             try:
                 again.is_up()
-                recover(again, seats)
+                recover(seats)
             except Gone:
                 pass
-            again.ended()
+            if again.ended().status == 0 and peer.count < SEATS:
+                raise Unfit(f"{peer.count} posts came")
             again.seconds, again.memory = again.seconds + it.seconds, max(again.memory, it.memory)
             return again
 
@@ -421,27 +419,40 @@ def measured(name, run):
     shown(name, it, least(run) if it.status == 0 else 0)
 
 
+def cases(room, folder):
+    """Each case's name and how it is run with a limit of its stack."""
+    largest, peer = filled(work), Peer()
+    yield "check of a small one", filtering(["check", "--path", "/work"], work("").encode(), b"message Work\n")
+    yield "check", filtering(["check", "--path", "/work"], largest, b"message Work\n")
+    yield "cell", filtering(["cell", "--state", "None"], filled(prepared), b"send Rollback -> None\n")
+    yield "a turn", turning(peer, largest)
+    yield "512 seats", seating(peer)
+    yield "replay", filtering(["replay"], replaying(), b"up 1 1\n")
+    yield "a journal of 8 MiB", starting(room, SMALL)
+    if folder:
+        yield "a journal of 4 GiB", starting(folder, MOST)
+
+
 def main(words):
     if not os.access(ATX, os.X_OK):
         sys.exit("largest: build the program first: ./atx --version")
-    soft, hard = resource.getrlimit(resource.RLIMIT_STACK)
+    folder = next((it for it in words if "/" in it), None)
+    names = tuple(it for it in words if "/" not in it)
+    _, hard = resource.getrlimit(resource.RLIMIT_STACK)
     if hard != resource.RLIM_INFINITY and hard < STACKS[1] * 1024:
         sys.exit(f"largest: the stack's limit is {hard} bytes")
     with tempfile.TemporaryDirectory() as room:
         Ran.prepare(room)
-        peer, largest = Peer(), filled(work)
         print(f"{'':<28}{'seconds':>10}{'MB':>10}{'stack, KiB':>12}")
         try:
-            measured("check of a small one", filtering(["check", "--path", "/work"], work("").encode(), b"message Work\n"))
-            measured("check", filtering(["check", "--path", "/work"], largest, b"message Work\n"))
-            measured("cell", filtering(["cell", "--state", "None"], filled(prepared), b"send Rollback -> None\n"))
-            measured("a turn", turning(peer, largest))
-            measured("512 seats", seating(peer))
-            measured("replay", filtering(["replay"], replaying(), b"up 1 1\n"))
-            measured("a journal of 8 MiB", starting(room, SMALL))
-            if words:
-                stack = least(starting(room, SMALL))
-                shown("a journal of 4 GiB", starting(words[0], MOST)(stack), stack)
+            for name, run in cases(room, folder):
+                if names and not name.startswith(names):
+                    continue
+                if name == "a journal of 4 GiB":
+                    stack = least(starting(room, SMALL))
+                    shown(name, run(stack), stack)
+                else:
+                    measured(name, run)
         except Unfit as fault:
             sys.exit(f"largest: {fault}")
     return 0
