@@ -274,6 +274,31 @@ fn what_accept_lacks_is_waited_out(rt: HostRuntime) -> Result<(), Fail> {
     Ok(())
 }
 
+/// Peers whose requests come in time, while a turn takes long: the disk is slow.
+fn busy(alloc: Global) -> Result<bool, AllocError> {
+    let mut world = world(alloc);
+    world.peer(sender(alloc, 0, 0, OTHER)?)?;
+    world.peer(sender(alloc, 0, 0, OTHER)?)?;
+    let mut first = sender(alloc, 0, 1000, FRONT)?;
+    first.sends(alloc, at(1500), BACK)?;
+    world.peer(first)?;
+    world.rule(each(Name::Sync, 4, 1, Act::Lasts(6000)))?;
+    let mut system = MemorySystem::new(world);
+    let mut site = NodeSite::new(alloc, &mut system);
+    let attached = site.attach("d/j", "127.0.0.1:9").is_ok();
+    let one = hears(&mut site, OTHER) && site.sync(0).is_ok();
+    let other = hears(&mut site, OTHER) && site.sync(0).is_ok();
+    let late = hears(&mut site, WHOLE);
+    Ok(attached && one && other && late)
+}
+
+#[test]
+fn a_request_that_came_in_time_has_its_turn(rt: HostRuntime) -> Result<(), Fail> {
+    let served = busy(rt.alloc())?;
+    assert!(rt; served, "served");
+    Ok(())
+}
+
 /// The most connections that are read aside.
 const MOST: usize = 1024;
 
