@@ -1,5 +1,5 @@
 -- Connections that came, and what was read of them.
-use Rattle.std.proofs.Common.{append_assoc, append-nil, ℕ, List, Option, None, Some, Ok, Err, [], ◌∷◌, suc, ◌≡◌, ◌<◌, ◌++◌, ◌∙◌, refl, sym, ap, subst, take, drop, length, slice_index_or}
+use Rattle.std.proofs.Common.{append_assoc, append-nil, ℕ, List, Option, None, Some, Ok, [], ◌∷◌, suc, ◌≡◌, ◌<◌, ◌++◌, ◌∙◌, refl, sym, ap, subst, take, drop, length, slice_index_or}
 use Rattle.std.specs.List.{remove}
 use lib.ListN.{set}
 use Rattle.std.proofs.lemmas.List.Elements.{All-append, All-drop, All-nil, All-push, All-set, All-take, All-weaker}
@@ -7,7 +7,7 @@ use Rattle.std.specs.declared.io.Error.{Error}
 use Rattle.std.specs.declared.net.SocketAddr.{SocketAddr}
 use Rattle.system_calls.specs.Calls.{Call, Calls, Number, Answer, answer, came, given, then}
 use Rattle.system_calls.specs.Calls.Call.{Accept, Read}
-use Rattle.atx_sites.specs.Arrivals.{ConnectionCame, Grows, HasCome, HaveCome, ServedCame}
+use Rattle.atx_sites.specs.Arrivals.{ConnectionCame, Grows, HasCome, HaveCome, IfCame, ServedCame}
 use Rattle.atx_sites.specs.LinkCalls.{Came, Later, number_at}
 use Rattle.atx_sites.specs.LinkCalls.Later.{none, more}
 use Rattle.atx_sites.specs.LinkCalls.Came.{accepted, read, beside}
@@ -42,6 +42,10 @@ came_read listener stream front bytes buf n mid new got c e r added =
 pub came_by : (listener stream : Number) (bytes : List ℕ) (mid new : Calls) (call : Call) → Came listener stream bytes mid → new ≡ then call mid → Came listener stream bytes new
 came_by listener stream bytes mid new call c e = beside call c e
 
+pub came_same : (listener stream : Number) (front bytes : List ℕ) (mid new : Calls) (call : Call) → Came listener stream front mid → new ≡ then call mid → bytes ≡ front
+    → Came listener stream bytes new
+came_same listener stream front bytes mid new call c e s = beside call (subst (λ l. Came listener stream l mid) (sym s) c) e
+
 module _ {C : Type 0} (number : C → Number) (listener : Number) where
   pub none_came : (calls : Calls) → HaveCome number listener calls []
   none_came calls = All-nil (HasCome number listener calls)
@@ -50,6 +54,9 @@ module _ {C : Type 0} (number : C → Number) (listener : Number) where
   have_still old new items h l =
       All-weaker (HasCome number listener old) (HasCome number listener new)
       (λ a c. still_came listener (number a.stream) a.bytes.items old new c l) items h
+
+  pub have_as : (old new : Calls) (items others : List (Arriving C)) → HaveCome number listener old items → new ≡ old → others ≡ items → HaveCome number listener new others
+  have_as old new items others h e f = subst (HaveCome number listener new) (sym f) (subst (λ l. HaveCome number listener l items) (sym e) h)
 
   pub have_removed : (calls : Calls) (items : List (Arriving C)) (i : ℕ) → HaveCome number listener calls items → HaveCome number listener calls (remove items i)
   have_removed calls items i h =
@@ -114,3 +121,13 @@ grown old new added e = (added, e)
 
 pub grown_more : (old mid new : List ℕ) → Grows old mid → Grows mid new → Grows old new
 grown_more old mid new (one, e) (two, f) = (one ++ two, f ∙ ap (λ l. l ++ two) e ∙ append_assoc old one two)
+
+module _ {C : Type 0} (number : C → Number) where
+  pub came_if : (listener : Number) (calls : Calls) (got : Option C) (stream : C) → IfCame {C = C} {E = Error} number listener calls (Ok got) → got ≡ Some stream
+      → Came listener (number stream) [] calls
+  came_if listener calls got stream c e = subst (λ o. IfCame {C = C} {E = Error} number listener calls (Ok o)) e c
+
+module _ {C : Type 0} (number : C → Number) (listener : Number) where
+  pub came_new : (calls : Calls) (stream : C) (a : Arriving C) → Came listener (number stream) [] calls → a.stream ≡ stream → a.bytes.items ≡ [] → HasCome number listener calls a
+  came_new calls stream a c e f =
+      subst (λ (s : C). Came listener (number s) a.bytes.items calls) (sym e) (subst (λ (l : List ℕ). Came listener (number stream) l calls) (sym f) c)

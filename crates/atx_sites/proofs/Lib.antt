@@ -7,5 +7,6 @@ pub mod Leavings
 pub mod Pushes
 pub mod Receipts
 pub mod Sendings
+pub mod Servings
 pub mod SilentMachines
 pub mod Turns

@@ -19,10 +19,18 @@ module _ {C : Type 0} where
   kept_failed number bytes true e f old new before now h = h
   kept_failed number bytes false e f old new before now h = h
 
+  kept_done : (E F : Type 0) (number : C → Number) (bytes : List ℕ) (cut : Bool) (d : Unit {0}) (old new : Served C) (before now : Calls)
+      → KeptOn {E = E} cut number bytes (Ok d) old new before now → KeptOn {E = F} cut number bytes (Ok d) old new before now
+  kept_done E F number bytes true d old new before now h = h
+  kept_done E F number bytes false d old new before now h = h
+
   pub kept_counted : (number : C → Number) (bytes : List ℕ) (answer : Answer (Unit {0})) (result : Result (Unit {0}) Failed) (old new : Option (Served C)) (before now : Calls)
       → ((x : Unit {0}) → answer ≡ Ok x → result ≡ Ok x) → IfOk result (λ x. answer ≡ Ok x) → KeepsOn number bytes answer old new before now
       → KeepsOn number bytes result old new before now
-  kept_counted number bytes (Ok d) result old new before now was ok h = subst (λ r. KeepsOn number bytes r old new before now) (sym (was d refl)) h
+  kept_counted number bytes (Ok d) result (Some a) (Some b) before now was ok h =
+      subst (λ r. KeepsOn number bytes r (Some a) (Some b) before now) (sym (was d refl)) (kept_done _ _ number bytes a.is_cut d a b before now h)
+  kept_counted number bytes (Ok d) result (Some a) None before now was ok h = absurd h
+  kept_counted number bytes (Ok d) result None new before now was ok h = h
   kept_counted number bytes (Err e) (Ok x) old new before now was ok h = cc
   kept_counted number bytes (Err e) (Err f) (Some a) (Some b) before now was ok h = kept_failed number bytes a.is_cut e f a b before now h
   kept_counted number bytes (Err e) (Err f) (Some a) None before now was ok h = h

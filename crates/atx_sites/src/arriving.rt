@@ -1,5 +1,6 @@
 //! One connection that is read aside.
 
+ghost use Rattle.std.specs.Prelude.{◌≡◌, []};
 ghost use Rattle.system_calls.specs.Calls.{Number};
 ghost use Rattle.atx_sites.specs.Arrivals.{Grows, HasCome};
 ghost use Rattle.atx_sites.specs.LinkCalls.{Later};
@@ -57,7 +58,10 @@ fn passes(kind: ErrorKind) -> bool {
 }
 
 impl<C> Arriving<C> {
-    pub(crate) fn new(alloc: Global, stream: C, ends: Duration) -> Arriving<C> {
+    pub(crate) fn new(alloc: Global, stream: C, ends: Duration) -> Arriving<C>
+        ensures stream { result.stream ≡ stream }
+        ensures bytes { result.bytes.items ≡ [] }
+    {
         Arriving {
             stream,
             bytes: Vec::new(alloc),

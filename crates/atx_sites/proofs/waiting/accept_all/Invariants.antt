@@ -1,4 +1,3 @@
-use Rattle.system_calls.specs.Calls.{Number}
 use Rattle.atx_sites.specs.Arrivals.{HaveCome}
 use Rattle.atx_sites.specs.LinkCalls.{Later}
 use Rattle.atx_sites.proofs.waiting.accept_all.Given as goal

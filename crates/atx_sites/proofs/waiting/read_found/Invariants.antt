@@ -1,4 +1,4 @@
-use Rattle.system_calls.specs.Calls.{Calls, Number}
+use Rattle.system_calls.specs.Calls.{Number}
 use Rattle.atx_sites.specs.Arrivals.{HaveCome}
 use Rattle.atx_sites.specs.LinkCalls.{Later}
 use Rattle.atx_sites.proofs.waiting.read_found.Given as goal

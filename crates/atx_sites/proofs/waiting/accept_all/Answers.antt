@@ -1,0 +1,21 @@
+use Rattle.atx_sites.proofs.Comings.{came_if, have_still, later_still}
+use Rattle.atx_sites.proofs.waiting.accept_all.Goals as goal
+
+pub returns-in-Ok-None-clause-came : goal.returns-in-Ok-None-clause-came
+returns-in-Ok-None-clause-came g c = λ h. have_still g.S.Stream.AsRawFd.raw_fd (g.S.Listener.AsRawFd.raw_fd c.args.listener.now) _ _ _ (c.accepted.invariant.0 h) c.accept_one.ensures.later
+
+pub returns-in-Ok-None-clause-later : goal.returns-in-Ok-None-clause-later
+returns-in-Ok-None-clause-later g c = later_still _ _ _ c.accepted.invariant.1 c.accept_one.ensures.later
+
+pub returns-in-Err-clause-came : goal.returns-in-Err-clause-came
+returns-in-Err-clause-came g c = λ h. have_still g.S.Stream.AsRawFd.raw_fd (g.S.Listener.AsRawFd.raw_fd c.args.listener.now) _ _ _ (c.accepted.invariant.0 h) c.accept_one.ensures.later
+
+pub returns-in-Err-clause-later : goal.returns-in-Err-clause-later
+returns-in-Err-clause-later g c = later_still _ _ _ c.accepted.invariant.1 c.accept_one.ensures.later
+
+pub accepted-preserved : goal.accepted-preserved
+accepted-preserved g c = (
+  (λ h. c.begin.ensures.came (g.S.Listener.AsRawFd.raw_fd c.args.listener.now) (came_if g.S.Stream.AsRawFd.raw_fd _ _ _ _ c.in-Ok-Some.ensures.came c.in-Ok-Some.field-0-is)
+      (have_still g.S.Stream.AsRawFd.raw_fd (g.S.Listener.AsRawFd.raw_fd c.args.listener.now) _ _ _ (c.accepted.invariant.0 h) c.accept_one.ensures.later)),
+  later_still _ _ _ (later_still _ _ _ c.accepted.invariant.1 c.accept_one.ensures.later) c.begin.ensures.later,
+)

@@ -1,0 +1,27 @@
+use Rattle.std.proofs.Common.{◌∙◌, ap}
+use Rattle.atx_sites.proofs.Comings.{have_as, later_still}
+use Rattle.atx_sites.specs.LinkCalls.Later.{none}
+use Rattle.atx_sites.specs.declared.waiting.Waiting.{Waiting}
+use Rattle.atx_sites.proofs.waiting.read_found.Goals as goal
+use Rattle.atx_sites.proofs.waiting.read_found.Goals.{then-ask-eq0, then-ask-eq0-via-then-ask-eq0, then-ask-eq0-via-else-ask-eq0+then-read_at, else-ask-eq0+else-read_at}
+
+pub found-preserved : goal.found-preserved
+found-preserved g c =
+    let number = g.S.Stream.AsRawFd.raw_fd in
+    let items = λ (v : Waiting g.row.S-Stream.Denot). v.arriving.items in
+    elim c.if-ask-eq0.branch [
+      | then-ask-eq0 w ↦ elim w.then-ask-eq0.branch [
+        | then-ask-eq0-via-then-ask-eq0 w' ↦ (
+          (λ listener h. have_as number listener _ _ _ _ (c.found.invariant.0 listener h) (ap g.S.System.calls (w.system-is ∙ w'.system-is)) (ap items (w.waiting-is ∙ w'.waiting-is))),
+          later_still _ _ _ c.found.invariant.1 (none (ap g.S.System.calls (w.system-is ∙ w'.system-is))),
+        )
+        | then-ask-eq0-via-else-ask-eq0+then-read_at w' ↦ (
+          (λ listener h. have_as number listener _ _ _ _ (w'.read_at.ensures.came listener (c.found.invariant.0 listener h)) (ap g.S.System.calls (w.system-is ∙ w'.system-is)) (ap items (w.waiting-is ∙ w'.waiting-is))),
+          later_still _ _ _ (later_still _ _ _ c.found.invariant.1 w'.read_at.ensures.later) (none (ap g.S.System.calls (w.system-is ∙ w'.system-is))),
+        )
+      ]
+      | else-ask-eq0+else-read_at w ↦ (
+        (λ listener h. have_as number listener _ _ _ _ (w.read_at.ensures.came listener (c.found.invariant.0 listener h)) (ap g.S.System.calls w.system-is) (ap items w.waiting-is)),
+        later_still _ _ _ (later_still _ _ _ c.found.invariant.1 w.read_at.ensures.later) (none (ap g.S.System.calls w.system-is)),
+      )
+    ]
