@@ -1,9 +1,9 @@
 -- The calls of connections that leave are calls later.
-use Rattle.std.proofs.Common.{ℕ, List, Vec, ◌≡◌, ◌∙◌, inl, inr, refl, sym, subst}
+use Rattle.std.proofs.Common.{ℕ, List, Vec, ◌∙◌, inl, inr, refl}
 use Rattle.std.specs.declared.alloc.Global.{Global}
 use Rattle.std.specs.declared.net.SocketAddr.{SocketAddr}
-use Rattle.system_calls.specs.Calls.{Calls, Number, then}
-use Rattle.atx_sites.specs.Departures.{Advances, Answers, Goes, Leaves, Went}
+use Rattle.system_calls.specs.Calls.{Calls, Number}
+use Rattle.atx_sites.specs.Departures.{Advances, Answers, Goes, Leaves}
 use Rattle.atx_sites.specs.Departures.Advances.{none as none_go, next}
 use Rattle.atx_sites.specs.Departures.Leaves.{none as no_call, took, failed, connects, unreached, shuts, reads}
 use Rattle.atx_sites.specs.LinkCalls.{Later}

@@ -1,5 +1,5 @@
 -- What attaching does, and taking a connection, of a machine that tells its counts alone.
-use Rattle.std.proofs.Common.{ℕ, List, Option, Result, Ok, Err, [], ◌∷◌, ◌++◌, ◌≡◌, ◌≤◌, ◌+◌, None, refl, sym, arith, true, false, is_err, OnOk, OnErr}
+use Rattle.std.proofs.Common.{ℕ, List, Result, Ok, Err, [], ◌++◌, ◌≡◌, ◌≤◌, ◌+◌, None, refl, sym, arith, true, false, is_err, OnOk, OnErr}
 use Rattle.std.proofs.lemmas.List.{append-nil}
 use Rattle.site_model.specs.Attachments.{Names, attached_by}
 use Rattle.site_model.specs.Calls.{Attaches, Takes}
@@ -7,7 +7,6 @@ use Rattle.site_model.specs.Counts.{HasCause, RisesBy, capped}
 use Rattle.site_model.specs.Site.{AttachCause}
 use Rattle.site_model.specs.Told.{silent}
 use Rattle.site_model.specs.declared.site.AttachFailed.{AttachFailed}
-use Rattle.site_model.specs.declared.site.Taken.{Taken}
 use Rattle.site_model.specs.declared.site.Taken.TheVariants.{Opened}
 use Rattle.system_calls.specs.Calls.{Calls, Number}
 use Rattle.atx_sites.specs.Disks.{IfHeld, Tallied}

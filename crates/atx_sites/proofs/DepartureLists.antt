@@ -1,5 +1,5 @@
 -- Connections that leave, one behind the other.
-use Rattle.std.proofs.Common.{ℕ, List, Result, [], ◌∷◌, ◌++◌, ◌≡◌, ◌+◌, ◌<◌, ◌≤◌, ◌∙◌, refl, sym, ap, subst, take, drop, get_or, length, slice_index_or, slice_set, arith}
+use Rattle.std.proofs.Common.{ℕ, List, Result, [], ◌∷◌, ◌++◌, ◌≡◌, ◌+◌, ◌<◌, ◌≤◌, ◌∙◌, refl, sym, ap, subst, take, drop, get_or, length, arith}
 use Rattle.std.specs.Prelude.{remove}
 use Rattle.std.proofs.lemmas.List.{take_all, take_more, take_more_set, drop_more, drop-set-lt, length-set}
 use Rattle.std.specs.declared.io.Error.{Error}

@@ -1,14 +1,13 @@
 -- The calls of one connection that leaves, one after another.
 use Rattle.std.proofs.Common.{ℕ, List, Some, Ok, Err, ◌≡◌, ◌+◌, ◌-◌, ◌<◌, ◌≤◌, ◌∙◌, refl, sym, ap, subst, take, drop, length, slice_index_or, arith}
-use Rattle.std.specs.Prelude.{Contains}
 use Rattle.std.proofs.lemmas.List.{take_all, length-drop}
 use Rattle.std.specs.declared.io.Error.{Error}
 use Rattle.std.specs.declared.net.SocketAddr.{SocketAddr}
-use Rattle.system_calls.specs.Calls.{Calls, Number, Answer, then, given, answer}
+use Rattle.system_calls.specs.Calls.{Calls, Number, Answer, then, answer}
 use Rattle.system_calls.specs.Calls.Call.{Connect, Read, ShutDown, Write}
 use Rattle.atx_sites.specs.Departures.{Leaves, Goes, Begins, Unreached}
 use Rattle.atx_sites.specs.Departures.Unreached.{none as none_tried, again}
-use Rattle.atx_sites.specs.Departures.Leaves.{none, took, failed, connects, unreached, shuts, reads}
+use Rattle.atx_sites.specs.Departures.Leaves.{took, failed, connects, unreached, shuts, reads}
 
 module _ (addresses : List SocketAddr) (bytes : List ℕ) where
   pub stays : (s : Number) (k : ℕ) (old : Calls) → Goes addresses bytes s k old s k old

@@ -1,9 +1,9 @@
 -- What a connection gives, of a machine that tells its counts alone.
-use Rattle.std.proofs.Common.{ℕ, List, Option, Result, Ok, Err, None, Some, ◌≡◌, ◌≤◌, refl, subst, length, OnOk, IfOk, IsErr}
+use Rattle.std.proofs.Common.{ℕ, List, Result, Ok, Err, None, Some, ◌≡◌, ◌≤◌, refl, subst, length, OnOk, IfOk, IsErr}
 use Rattle.std.specs.Io.{ReadsAtMost}
 use Rattle.site_model.specs.Attachments.{Names}
 use Rattle.site_model.specs.Counts.{HasCause}
-use Rattle.site_model.specs.Site.{OnLink, OnReceive}
+use Rattle.site_model.specs.Site.{OnLink}
 use Rattle.site_model.specs.Calls.{Received}
 use Rattle.site_model.specs.Told.{Link, silent}
 use Rattle.atx_sites.specs.Disks.{Tallied}

@@ -1,11 +1,11 @@
 -- The calls of a machine that tells its counts alone.
-use Rattle.std.proofs.Common.{ℕ, List, None, Result, Ok, Err, [], ◌∷◌, ◌≡◌, ◌≤◌, inr, refl, map, length, OnOk, OnErr, IfOk, IsErr}
+use Rattle.std.proofs.Common.{ℕ, List, None, Result, Ok, Err, [], ◌∷◌, ◌≡◌, inr, refl, map, OnOk, OnErr, IfOk, IsErr}
 use Rattle.site_model.specs.Told.{Call, Made, Files, Elapses, Is, done, silent}
 use Rattle.site_model.specs.Told.Call.{Write, Sync}
 use Rattle.site_model.specs.Attachments.{Names}
 use Rattle.site_model.specs.Counts.{HasCause}
-use Rattle.site_model.specs.Site.{Counts, OnDisk, OnGate, OnLink, OnReceive}
-use Rattle.site_model.specs.Calls.{Looked, Received, Runs, Wrote, Synced, Raised, Gave}
+use Rattle.site_model.specs.Site.{Counts, OnDisk, OnGate, OnLink}
+use Rattle.site_model.specs.Calls.{Looked, Runs, Wrote, Synced, Raised, Gave}
 use Rattle.atx_sites.specs.Networks.{counts_with}
 use Rattle.atx_sites.specs.declared.disk.Disk.{Disk}
 

@@ -1,5 +1,5 @@
 -- What is known of a journal's two files, and of a machine with them and no network.
-use Rattle.std.specs.Prelude.{ℕ, List, Bool, Option, Result, Some, None, Ok, Err, zero, suc, true, ◌≡◌, ◌+◌}
+use Rattle.std.specs.Prelude.{ℕ, List, Option, Result, None, Ok, Err, zero, suc, ◌≡◌, ◌+◌}
 use Rattle.site_model.specs.Attachments.{Names}
 use Rattle.site_model.specs.Counts.{capped}
 use Rattle.site_model.specs.Told.{Told, silent}

@@ -1,8 +1,8 @@
 -- Which calls of the system a machine makes on its files: what the calls were before, and what they are behind it.
-use Rattle.std.specs.Prelude.{ℕ, List, Option, Some, None, Result, Ok, Err, ◌∷◌, [], ◌++◌, ◌≡◌, ◌+◌, ◌⊎◌, true, length, drop, take, codes}
+use Rattle.std.specs.Prelude.{ℕ, List, None, Result, Ok, Err, ◌∷◌, [], ◌++◌, ◌≡◌, ◌+◌, ◌⊎◌, true, length, drop, take, codes}
 use Rattle.std.specs.Str.Pattern.{RFindsChar, SplitsAroundMatch}
 use Rattle.std.specs.declared.io.Error.{Error}
-use Rattle.system_calls.specs.Calls.{Call, Calls, Number, Answer, then}
+use Rattle.system_calls.specs.Calls.{Calls, Number, Answer, then}
 use Rattle.system_calls.specs.Calls.Call.{Open, OpenFolder, Duplicate, Examine, Lock, ReadAt, WriteAt, Sync, Forget}
 use Rattle.system_calls.specs.declared.system.Stat.{Stat}
 use Rattle.atx_sites.specs.declared.open_file.Held.{Held}

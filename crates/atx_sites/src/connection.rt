@@ -1,6 +1,6 @@
 //! The listener of a node, the connections that are read aside, and the one that is served.
 
-ghost use Rattle.std.specs.Prelude.{◌≡◌, ◌≤◌, ◌<◌, ◌+◌, ◌++◌, ◌^◌, None, IfOk, IsErr, OnErr, OnOk, drop, length, take};
+ghost use Rattle.std.specs.Prelude.{◌≡◌, ◌≤◌, ◌<◌, ◌+◌, ◌++◌, ◌^◌, None, Some, IfOk, IsErr, OnErr, OnOk, drop, length, take};
 ghost use Rattle.std.specs.Io.{ReadsAtMost, WritesAtMost};
 ghost use Rattle.system_calls.specs.Calls.{Number};
 ghost use Rattle.atx_sites.specs.Arrivals.{ConnectionCame, Gives, HasCome, HaveCome, Keeps, KeepsOn, ServedCame};
@@ -248,7 +248,31 @@ fn give(bytes: &[u8], from: usize, buf: &mut [u8]) -> usize
     n
 }
 
-/// Reads from the connection that is open, and says how many bytes: first those that were read aside.
+/// Reads from a connection, and says how many bytes: first those that were read aside.
+fn receive_of<S: System>(
+    system: &mut S,
+    served: &mut Served<S::Stream>,
+    buf: &mut [u8],
+) -> io::Result<usize>
+    ensures bound { ReadsAtMost result buf.new }
+    ensures gives { Gives buf.new result (Some served.old) (Some served.new) }
+    ensures came { (listener : Number) → HasCome S.Stream.raw_fd listener (S.calls system.old) served.old.arriving → HasCome S.Stream.raw_fd listener (S.calls system.new) served.new.arriving }
+    ensures later { Later (S.calls system.old) (S.calls system.new) }
+{
+    let given = served.given;
+    if let Err(fault) = read_on(system, &mut served.arriving, given) {
+        return Err(fault);
+    }
+    let n = give(served.arriving.bytes.as_slice(), given, buf);
+    if n == 0 && served.arriving.rest == Rest::Failed {
+        return Err(ErrorKind::ConnectionReset.into());
+    }
+    served.given = given + n;
+    Ok(n)
+}
+
+/// Reads from the connection that is open, and says how many bytes.
+#[tactic(auto, using(crate::proofs::Comings::as_late))]
 pub(crate) fn receive<S: System>(
     system: &mut S,
     connection: &mut Connection<S::Listener, S::Stream>,
@@ -261,19 +285,10 @@ pub(crate) fn receive<S: System>(
     ensures same { (connection.new.listener ≡ connection.old.listener) × (connection.new.waiting ≡ connection.old.waiting) }
     ensures later { Later (S.calls system.old) (S.calls system.new) }
 {
-    let Some(served) = &mut connection.served else {
-        return Err(ErrorKind::NotConnected.into());
-    };
-    let given = served.given;
-    if let Err(fault) = read_on(system, &mut served.arriving, given) {
-        return Err(fault);
+    match &mut connection.served {
+        Some(served) => receive_of(system, served, buf),
+        None => Err(ErrorKind::NotConnected.into()),
     }
-    let n = give(served.arriving.bytes.as_slice(), given, buf);
-    if n == 0 && served.arriving.rest == Rest::Failed {
-        return Err(ErrorKind::ConnectionReset.into());
-    }
-    served.given = given + n;
-    Ok(n)
 }
 
 /// Hands bytes to the system until it takes no more, and says how many it took.

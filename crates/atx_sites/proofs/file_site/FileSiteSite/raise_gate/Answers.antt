@@ -1,5 +1,3 @@
-use Rattle.std.proofs.Common.{ap}
-use Rattle.atx_sites.specs.declared.disk.Disk.{Disk}
 use Rattle.atx_sites.proofs.SilentMachines.{raised, on_gate}
 use Rattle.atx_sites.proofs.file_site.FileSiteSite.raise_gate.Goals as goal
 

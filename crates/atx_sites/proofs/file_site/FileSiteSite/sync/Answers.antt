@@ -1,5 +1,3 @@
-use Rattle.std.proofs.Common.{ap}
-use Rattle.atx_sites.specs.declared.disk.Disk.{Disk}
 use Rattle.atx_sites.proofs.SilentMachines.{synced, on_disk}
 use Rattle.atx_sites.proofs.file_site.FileSiteSite.sync.Goals as goal
 
