@@ -1,5 +1,5 @@
 -- What a command that serves did, as the clauses of the top call say it.
-use Rattle.std.proofs.Common.{◌≡◌, ◌+◌, ◌<◌, arith, ℕ, List, [], ◌∷◌, ◌++◌, Bool, true, false, Option, Some, None, Ok, Err, IsTrue, length, take, nat_eq, ◌≤◌, ◌||◌, ◌⊎◌, inl, inr, refl, subst, sym, ap, ◌∙◌}
+use Rattle.std.proofs.Common.{◌≡◌, ◌+◌, ◌<◌, arith, ℕ, List, [], ◌∷◌, ◌++◌, Bool, true, false, Option, Some, None, Ok, Err, IsTrue, length, take, nat_eq, ◌≤◌, ◌||◌, ◌&&◌, ◌⊎◌, inl, inr, refl, subst, sym, ap, ◌∙◌}
 use Rattle.std.proofs.lemmas.Bool.{eqb-true}
 use Rattle.std.proofs.lemmas.List.{append-nil}
 use Rattle.std.specs.List.{list_any}
@@ -21,10 +21,10 @@ use Rattle.site_model.specs.Told.{Told}
 use Rattle.clap.specs.Faults.{fault_of}
 use Rattle.clap.specs.Walk.{Text}
 use Rattle.command_line.specs.Commands.{whole}
-use Rattle.command_line.specs.Jobs.{IsInitiator, IsJobOf, Job, Role, Serving}
-use Rattle.command_line.specs.Jobs.Job.{Serve}
+use Rattle.command_line.specs.Jobs.{Filter, IsInitiator, IsJobOf, Job, Role, Serving}
+use Rattle.command_line.specs.Jobs.Job.{Filters, Serve}
 use Rattle.command_line.specs.Jobs.Role.{Coordinator, Initiator, Participant}
-use Rattle.command_line.specs.Reports.{bad_line, status_of}
+use Rattle.command_line.specs.Reports.{IsReport, bad_line, status_of}
 use Rattle.command_line.specs.Servings.{HasServed, Initiates, Refuses, initiates, is_initiator, role_of, status_by}
 use Rattle.command_line.specs.Views.{Leaves, Tells, meant_role, statuses_of}
 use Rattle.command_line.specs.declared.job.NoJob.{NoJob}
@@ -133,6 +133,27 @@ unserved told words none.NoDestination s lines status x y old h j is quiet = abs
 unserved told words none.NoNumbers s lines status x y old h j is quiet = absurd (h.0.0 (Serve s, j))
 unserved told words none.NoServing s lines status x y old h j is quiet = absurd (h.0.0 (Serve s, j))
 unserved told words none.NoBase s lines status x y old h j is quiet = absurd (h.0.0 (Serve s, j))
+
+pub allowed : (may a b : Bool) → may ≡ true → may ≡ (a && b) → (a ≡ true) × (b ≡ true)
+allowed may true true t e = (refl, refl)
+allowed may true false t e = absurd cc
+allowed may false b t e = absurd cc
+
+-- a filter without faults reports, unless there was no memory for its words
+pub unreported : (words : List Text) (reason : NoJob) (filter : Filter) (input : List ℕ) (status : ℕ) (x y : Option (List ℕ)) → Tells words reason
+    → IsJobOf words (Filters filter) → IsTrue (list_any (nat_eq status) (statuses_of reason)) → Leaves reason (Appends x y []) → IsReport filter input x y status
+unreported words none.NoMemory filter input status x y h j is quiet = by (nat_eq status 9) refl is
+  where
+    by : (b : Bool) → nat_eq status 9 ≡ b → IsTrue (b || false) → IsReport filter input x y status
+    by true e f = inr (record { silent = quiet; cause = inl (eqb-true status 9 e) })
+    by false e f = absurd cc
+unreported words (none.Question text) filter input status x y h j is quiet = absurd (asks_nothing (fault_of whole words) j.0 h)
+unreported words (none.Refused text) filter input status x y h j is quiet = absurd (h.0.0 (Filters filter, j))
+unreported words none.UnknownState filter input status x y h j is quiet = absurd (h.0.0 (Filters filter, j))
+unreported words none.NoDestination filter input status x y h j is quiet = absurd (h.0.0 (Filters filter, j))
+unreported words none.NoNumbers filter input status x y h j is quiet = absurd (h.0.0 (Filters filter, j))
+unreported words none.NoServing filter input status x y h j is quiet = absurd (h.0.0 (Filters filter, j))
+unreported words none.NoBase filter input status x y h j is quiet = absurd (h.0.0 (Filters filter, j))
 
 -- who is no initiator leaves the source alone
 pub unread_by : (words : List Text) (s : Serving) (P : Type 0) → (IsInitiator words → ⊥) → IsJobOf words (Serve s) → (initiates s ≡ false → P) → P
