@@ -1,0 +1,4 @@
+pub mod Superiors
+pub mod Outcomes
+pub mod Verdicts
+pub mod Examples
