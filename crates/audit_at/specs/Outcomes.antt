@@ -2,6 +2,7 @@
 use Rattle.std.specs.Prelude.{ℕ, List, [], ◌∷◌, ◌++◌, Bool, true, false, not, ◌&&◌, Option, Some, None, if◌then◌else◌}
 use Rattle.std.specs.List.{list_any}
 use Rattle.at_base.specs.Numbers.{Numbers}
+use Rattle.at_base.specs.declared.epr.Epr.{Epr}
 use Rattle.at_base.specs.declared.record.Record.{Record}
 use Rattle.at_base.specs.declared.record.Record.TheVariants as records
 use Rattle.at_model.specs.Book.{is_id}
@@ -36,19 +37,28 @@ abbrev pub leaf_top : List Subordinate → Item → Option Item → Item
 leaf_top subs leaf None = leaf
 leaf_top subs leaf (Some coordinator) = top_of subs coordinator
 
--- A prepared leaf ends by what is recorded behind it, and of several of one id the last counts. A subordinate that voted is committed
--- where that is recorded behind its vote, else aborted where its end is. A root is recorded where it committed.
+-- A prepared leaf ends by what is recorded behind it; of several of one id the last counts.
+abbrev pub leaf_outcomes : List Subordinate → Item → Epr → List Record → List Outcome
+leaf_outcomes subs leaf coordinator rest =
+    if list_any (is_leaf_prepared leaf.id) rest then []
+    else ended (leaf_top subs leaf (named coordinator.address)) (list_any (is_leaf_committed leaf.id) rest) (list_any (is_leaf_aborted leaf.id) rest)
+
+-- A subordinate that voted is committed where that is recorded behind its last vote, else aborted where its end is.
+abbrev pub vote_outcomes : List Subordinate → Item → List Record → List Outcome
+vote_outcomes subs item rest =
+    if list_any (is_voted item.id) rest then []
+    else ended (top_of subs item) (list_any (is_sub_committed item.id) rest) (not (list_any (is_sub_committed item.id) rest) && list_any (is_ended item.id) rest)
+
+-- a root is recorded where it committed, once or more
+abbrev pub root_outcomes : List Subordinate → Item → List Record → List Outcome
+root_outcomes subs item rest = if list_any (is_root_committed item.id) rest then [] else ended (top_of subs item) true false
+
+-- what a record says of its item, with those behind it
 abbrev pub outcomes_at : List Subordinate → List ℕ → Record → List Record → List Outcome
-outcomes_at subs base (records.LeafPrepared id coordinator key value) rest =
-    if list_any (is_leaf_prepared id) rest then []
-    else ended (leaf_top subs (item_at base id) (named coordinator.address)) (list_any (is_leaf_committed id) rest) (list_any (is_leaf_aborted id) rest)
-outcomes_at subs base (records.Voted id superior seats) rest =
-    if list_any (is_voted id) rest then []
-    else ended (top_of subs (item_at base id)) (list_any (is_sub_committed id) rest) (not (list_any (is_sub_committed id) rest) && list_any (is_ended id) rest)
-outcomes_at subs base (records.Decided id seats) rest =
-    if list_any (is_root_committed id) rest then [] else ended (top_of subs (item_at base id)) true false
-outcomes_at subs base (records.Done id) rest =
-    if list_any (is_root_committed id) rest then [] else ended (top_of subs (item_at base id)) true false
+outcomes_at subs base (records.LeafPrepared id coordinator key value) rest = leaf_outcomes subs (item_at base id) coordinator rest
+outcomes_at subs base (records.Voted id superior seats) rest = vote_outcomes subs (item_at base id) rest
+outcomes_at subs base (records.Decided id seats) rest = root_outcomes subs (item_at base id) rest
+outcomes_at subs base (records.Done id) rest = root_outcomes subs (item_at base id) rest
 outcomes_at subs base other rest = []
 
 abbrev pub outcomes_in : List Subordinate → List ℕ → List Record → List Outcome

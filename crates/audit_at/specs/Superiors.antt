@@ -1,12 +1,16 @@
 -- Which transactions voted to which, in the journals of several nodes (WS-AtomicTransaction 1.2, section 3.3).
-use Rattle.std.specs.Prelude.{ℕ, zero, suc, List, [], ◌∷◌, ◌++◌, Bool, false, ◌&&◌, ◌||◌, ◌^◌, nat_eq, Option, Some, None, if◌then◌else◌, bytes_eq, codes, length, option_map, option_and_then, unwrap_or}
+use Rattle.std.specs.Prelude.{ℕ, zero, suc, List, [], ◌∷◌, ◌++◌, Bool, false, ◌&&◌, ◌||◌, nat_eq, Option, Some, None, if◌then◌else◌, bytes_eq, length, unwrap_or}
 use Rattle.std.specs.List.{list_any}
 use Rattle.at_base.specs.Numbers.{Numbers}
+use Rattle.at_base.specs.declared.notice.Kind.{Kind}
+use Rattle.at_base.specs.declared.notice.Kind.TheVariants as kinds
 use Rattle.at_base.specs.declared.record.Record.{Record}
 use Rattle.at_base.specs.declared.record.Record.TheVariants as records
+use Rattle.at_base.specs.declared.target.Target.{Target}
+use Rattle.at_base.specs.declared.target.Target.TheVariants as targets
 use Rattle.at_model.specs.Book.{is_id}
 use Rattle.at_model.specs.Recovery.{is_voted}
-use Rattle.endpoints.specs.Addresses.{after_prefix, id_of, number_of, or_else, slash, split_at}
+use Rattle.endpoints.specs.Addresses.{or_else, slash, target_at}
 use Rattle.audit_at.specs.declared.item.Item.{Item}
 use Rattle.audit_at.specs.declared.subordinate.Subordinate.{Subordinate}
 
@@ -21,26 +25,29 @@ item_at base id = record { base = base; id = id }
 abbrev pub is_item : Item → Item → Bool
 is_item a b = bytes_eq a.base b.base && is_id a.id b.id
 
--- an id, a slash and the number of a seat
-abbrev pub seat_id : List ℕ → Option Numbers
-seat_id text =
-    option_and_then (λ p. option_and_then (λ id. option_map (λ n. id) (number_of (2 ^ 16) p.1)) (id_of p.0)) (split_at slash text)
+-- the transaction that has the durable seat
+abbrev pub of_kind : Item → Kind → Option Item
+of_kind item kinds.Durable = Some item
+of_kind item kinds.Volatile = None
 
--- the transaction that has this durable seat
-abbrev pub durable_seat : List ℕ → Option Numbers
-durable_seat path = option_and_then seat_id (after_prefix (codes "c/d/") path)
+abbrev pub with_seat : List ℕ → Option Target → Option Item
+with_seat base (Some (targets.Coordinator id seat)) = of_kind (item_at base id) seat.kind
+with_seat base other = None
 
-abbrev pub named_here : List ℕ → ℕ → List ℕ → Option Item
-named_here base b rest = if nat_eq b slash then option_map (item_at base) (durable_seat rest) else None
+-- the same, of the node at this base
+abbrev pub named_at : List ℕ → List ℕ → Option Item
+named_at address base = with_seat base (target_at base address)
 
-abbrev pub named_from : List ℕ → List ℕ → Option Item
-named_from base [] = None
-named_from base (b ∷ rest) = or_else (named_here base b rest) (named_from (base ++ b ∷ []) rest)
+-- of a node whose base goes on from there
+abbrev pub named_from : List ℕ → List ℕ → List ℕ → Option Item
+named_from address base [] = None
+named_from address base (b ∷ rest) =
+    or_else (if nat_eq b slash then named_at address base else None) (named_from address (base ++ b ∷ []) rest)
 
--- The transaction that an address names as the one that accepted a durable registration: behind its node's base stands the path of
--- a durable seat, `/c/d/ID/SEAT` (this project's profile). Another address names none.
+-- The transaction that an address names as the one that accepted a durable registration: behind the base of its node stands the path
+-- of a durable seat, `/c/d/ID/SEAT` (this project's profile). Another address names none.
 abbrev pub named : List ℕ → Option Item
-named address = named_from [] address
+named address = named_from address [] address
 
 -- Of several votes of one transaction the last counts. Its superior is the one that the vote was for.
 abbrev pub subordinate_at : List ℕ → Record → List Record → List Subordinate

@@ -19,16 +19,16 @@ rank a b =
     ordering_then (slice_cmp nat_cmp a.base b.base)
     (ordering_then (nat_cmp a.id.incarnation b.id.incarnation) (nat_cmp a.id.counter b.id.counter))
 
-abbrev pub lesser : Item → Item → Item
-lesser x y = if is_lt (rank y x) then y else x
+abbrev pub lesser : Option Item → Item → Item
+lesser None x = x
+lesser (Some least) x = if is_lt (rank x least) then x else least
 
-abbrev pub least_from : Item → List Item → Item
+abbrev pub least_from : Option Item → List Item → Option Item
 least_from least [] = least
-least_from least (x ∷ xs) = least_from (lesser least x) xs
+least_from least (x ∷ xs) = least_from (Some (lesser least x)) xs
 
 abbrev pub least : List Item → Option Item
-least [] = None
-least (x ∷ xs) = Some (least_from x xs)
+least items = least_from None items
 
 -- the tops of the outcomes that committed, and of those that aborted
 abbrev pub committed_tops : List Outcome → List Item
