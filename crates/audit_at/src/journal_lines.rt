@@ -83,7 +83,12 @@ fn is_taken(lines: &[JournalLine], base: &str) -> bool
 }
 
 /// A journal that has its base and its files.
-fn line_of(lines: &[JournalLine], base: Text, first: Vec<u8>, second: Vec<u8>) -> Result<JournalLine, Cause>
+fn line_of(
+    lines: &[JournalLine],
+    base: Text,
+    first: Vec<u8>,
+    second: Vec<u8>,
+) -> Result<JournalLine, Cause>
     ensures { result ≡ unless_taken lines.now (record { base = base; files = record { first = first.items; second = second.items } }) }
 {
     if is_taken(lines, base.as_str()) {
@@ -92,7 +97,11 @@ fn line_of(lines: &[JournalLine], base: Text, first: Vec<u8>, second: Vec<u8>) -
     Ok(JournalLine::new(base, first, second))
 }
 
-fn fields(alloc: Global, lines: &[JournalLine], words: &[&str]) -> Result<Result<JournalLine, Cause>, AllocError>
+fn fields(
+    alloc: Global,
+    lines: &[JournalLine],
+    words: &[&str],
+) -> Result<Result<JournalLine, Cause>, AllocError>
     ensures { IfOk result (λ line. line ≡ fields lines.now (map (λ w. w.now) words.now)) }
 {
     let [base, first, second] = words else {
@@ -111,7 +120,11 @@ fn fields(alloc: Global, lines: &[JournalLine], words: &[&str]) -> Result<Result
     Ok(line_of(lines, base, first, second))
 }
 
-fn journal_words(alloc: Global, lines: &[JournalLine], words: &[&str]) -> Result<Result<JournalLine, Cause>, AllocError>
+fn journal_words(
+    alloc: Global,
+    lines: &[JournalLine],
+    words: &[&str],
+) -> Result<Result<JournalLine, Cause>, AllocError>
     ensures { IfOk result (λ line. line ≡ journal_words lines.now (map (λ w. w.now) words.now)) }
 {
     match words.split_first() {
@@ -126,7 +139,12 @@ fn bad(line: u32, cause: Cause) -> ScheduleError
     ScheduleError::Bad(BadLine { line, cause })
 }
 
-fn read_line(alloc: Global, lines: &[JournalLine], number: u32, line: &[u8]) -> Result<JournalLine, ScheduleError>
+fn read_line(
+    alloc: Global,
+    lines: &[JournalLine],
+    number: u32,
+    line: &[u8],
+) -> Result<JournalLine, ScheduleError>
     ensures { Answers (at_line number (journal_line lines.now number line.now)) result }
 {
     let Some(plain) = plain_line(line) else {

@@ -43,7 +43,11 @@ fn machine(alloc: Global, first: &[u8], second: &[u8]) -> Result<MemSite, AllocE
 
 /// The records that two files stand for.
 #[tactic(auto, using(crate::proofs::FilesRead::stands, crate::proofs::FilesRead::no_record, crate::proofs::FilesRead::no_list))]
-pub(crate) fn journal_of(alloc: Global, first: &[u8], second: &[u8]) -> Result<Records, JournalFault>
+pub(crate) fn journal_of(
+    alloc: Global,
+    first: &[u8],
+    second: &[u8],
+) -> Result<Records, JournalFault>
     ensures { JournalOf result (record { first = first.now; second = second.now }) }
 {
     let Ok(mut site) = machine(alloc, first, second) else {

@@ -19,11 +19,7 @@ fn at_slash(text: &str) -> Option<(&str, &str)>
 }
 
 /// The transaction of this target, where that is a durable seat.
-fn with_seat(
-    alloc: Global,
-    base: &str,
-    target: Option<Target>,
-) -> Result<Option<Item>, AllocError>
+fn with_seat(alloc: Global, base: &str, target: Option<Target>) -> Result<Option<Item>, AllocError>
     ensures { IfOk result (λ item. item ≡ with_seat base.now target) }
 {
     match target {

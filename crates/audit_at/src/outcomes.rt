@@ -7,7 +7,10 @@ use crate::item::Item;
 use crate::log::Log;
 use crate::named::named;
 use crate::outcome::Outcome;
-use crate::records::{any_ended, any_leaf_aborted, any_leaf_committed, any_leaf_prepared, any_root_committed, any_sub_committed, any_voted};
+use crate::records::{
+    any_ended, any_leaf_aborted, any_leaf_committed, any_leaf_prepared, any_root_committed,
+    any_sub_committed, any_voted,
+};
 use crate::subordinate::Subordinate;
 use crate::superiors::top_of;
 use at_base::epr::Epr;
@@ -25,7 +28,12 @@ fn push(outcomes: &mut Vec<Outcome>, top: &Item, committed: bool) -> Result<(), 
 }
 
 /// Adds what ended so, under a top.
-fn add_ended(outcomes: &mut Vec<Outcome>, top: &Item, committed: bool, aborted: bool) -> Result<(), AllocError>
+fn add_ended(
+    outcomes: &mut Vec<Outcome>,
+    top: &Item,
+    committed: bool,
+    aborted: bool,
+) -> Result<(), AllocError>
     ensures { OnOk result (outcomes.new.items ≡ outcomes.old.items ++ ended top.now committed aborted) }
 {
     if committed {
@@ -113,7 +121,9 @@ fn add_one(
 {
     match entry {
         Record::LeafPrepared {
-            id, coordinator, ..
+            id,
+            coordinator,
+            ..
         } => {
             let leaf = item_at(base, *id)?;
             add_leaf(alloc, outcomes, subs, &leaf, coordinator, rest)
@@ -155,7 +165,11 @@ fn add_all(
 
 /// Each item's outcomes, each once.
 #[tactic(auto, using(crate::proofs::Pushes::moved))]
-pub(crate) fn outcomes(alloc: Global, subs: &[Subordinate], logs: &[Log]) -> Result<Vec<Outcome>, AllocError>
+pub(crate) fn outcomes(
+    alloc: Global,
+    subs: &[Subordinate],
+    logs: &[Log],
+) -> Result<Vec<Outcome>, AllocError>
     ensures { IfOk result (λ all. all.items ≡ outcomes_under subs.now logs.now) }
 {
     let mut outcomes = Vec::new(alloc);

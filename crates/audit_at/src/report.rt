@@ -85,7 +85,11 @@ pub enum Unread {
     Bad { number: usize, file: u8, place: u64 },
 }
 
-fn push(journals: &mut Vec<(Text, Records)>, base: &Text, records: Records) -> Result<(), AllocError>
+fn push(
+    journals: &mut Vec<(Text, Records)>,
+    base: &Text,
+    records: Records,
+) -> Result<(), AllocError>
     ensures { OnOk result (journals.new.items ≡ journals.old.items ++ (base.now, records) ∷ []) }
 {
     journals.push((base.clone()?, records))?;
@@ -129,11 +133,13 @@ fn audited(alloc: Global, lines: &[JournalLine]) -> Result<Audited, AllocError>
             verdict_printed(alloc, &verdict)
         }
         Err(Unread::NoMemory) => Err(AllocError),
-        Err(Unread::Bad {
-            number,
-            file,
-            place,
-        }) => bad_journal(alloc, number, file, place),
+        Err(
+            Unread::Bad {
+                number,
+                file,
+                place,
+            },
+        ) => bad_journal(alloc, number, file, place),
     }
 }
 

@@ -71,7 +71,12 @@ pub(crate) fn comes_back(subs: &[Subordinate], item: &Item) -> bool
     false
 }
 
-fn push(subs: &mut Vec<Subordinate>, base: &Text, id: Id, superior: Option<Item>) -> Result<(), AllocError>
+fn push(
+    subs: &mut Vec<Subordinate>,
+    base: &Text,
+    id: Id,
+    superior: Option<Item>,
+) -> Result<(), AllocError>
     ensures { OnOk result (subs.new.items ≡ subs.old.items ++ record { item = record { base = base.now; id = id }; superior = superior } ∷ []) }
 {
     let item = Item {
@@ -83,7 +88,13 @@ fn push(subs: &mut Vec<Subordinate>, base: &Text, id: Id, superior: Option<Item>
 }
 
 /// Adds the transaction that votes by this record, unless it votes again behind it.
-fn add_one(alloc: Global, subs: &mut Vec<Subordinate>, base: &Text, entry: &Record, rest: &[Record]) -> Result<(), AllocError>
+fn add_one(
+    alloc: Global,
+    subs: &mut Vec<Subordinate>,
+    base: &Text,
+    entry: &Record,
+    rest: &[Record],
+) -> Result<(), AllocError>
     ensures { OnOk result (subs.new.items ≡ subs.old.items ++ subordinate_at base.now entry.now rest.now) }
 {
     match entry {
@@ -100,7 +111,12 @@ fn add_one(alloc: Global, subs: &mut Vec<Subordinate>, base: &Text, entry: &Reco
 
 /// Adds those that voted by these records.
 #[tactic(auto, using(crate::proofs::Pushes::moved))]
-fn add_all(alloc: Global, subs: &mut Vec<Subordinate>, base: &Text, entries: &[Record]) -> Result<(), AllocError>
+fn add_all(
+    alloc: Global,
+    subs: &mut Vec<Subordinate>,
+    base: &Text,
+    entries: &[Record],
+) -> Result<(), AllocError>
     ensures { OnOk result (subs.new.items ≡ subs.old.items ++ subordinates_in base.now entries.now) }
 {
     let mut rest = entries;
