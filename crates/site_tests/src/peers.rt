@@ -8,7 +8,6 @@ use std::io::{ErrorKind, Read, Write};
 use std::net::{Shutdown, TcpListener, TcpStream};
 use std::path::PathBuf;
 use std::test::Fail;
-use std::time::{Duration, Instant};
 use std::{env, fs, io, process};
 
 /// A Prepared of a participant, in a post to its coordinator.
@@ -197,25 +196,14 @@ fn answers_slowly<S: Site>(rt: &HostRuntime, site: &mut S, port: u16) -> io::Res
     Ok(false)
 }
 
-/// A peer doesn't accept a post's connection: nobody waits for it.
-fn passes_over<S: Site>(rt: &HostRuntime, site: &mut S, port: u16) -> io::Result<bool> {
-    let start = Instant::now(rt)?;
-    for _ in 0..4 {
-        let _ = site.post("192.0.2.1", 80, POST);
-    }
-    let served = serves(rt, site, port)?;
-    Ok(served && start.elapsed(rt)? < Duration::from_secs(1))
-}
-
 /// What a test does with a machine at a port.
-#[derive(Clone, Copy, PartialEq, Eq)]
+#[derive(Clone, Copy)]
 enum Act {
     Serve,
     Post,
     GoOn,
     WaitAside,
     AnswerSlowly,
-    PassOver,
 }
 
 fn attached(rt: &HostRuntime, test: &str, act: Act) -> io::Result<bool> {
@@ -231,11 +219,10 @@ fn attached(rt: &HostRuntime, test: &str, act: Act) -> io::Result<bool> {
         Act::GoOn => goes_on(rt, &mut site, port),
         Act::WaitAside => waits_aside(rt, &mut site, port),
         Act::AnswerSlowly => answers_slowly(rt, &mut site, port),
-        Act::PassOver => passes_over(rt, &mut site, port),
     };
     site.leave();
     remove(rt, &name)?;
-    Ok(shut && opened && done? && (site.lost() == 0 || act == Act::PassOver))
+    Ok(shut && opened && done? && site.lost() == 0)
 }
 
 #[test]
@@ -270,13 +257,6 @@ fn a_half_sent_request_delays_nobody(rt: HostRuntime) -> Result<(), Fail> {
 fn a_slow_reader_delays_nobody(rt: HostRuntime) -> Result<(), Fail> {
     let answers = attached(&rt, "slowly", Act::AnswerSlowly)?;
     assert!(rt; answers, "answers slowly");
-    Ok(())
-}
-
-#[test]
-fn an_unreachable_peer_delays_nobody(rt: HostRuntime) -> Result<(), Fail> {
-    let passes = attached(&rt, "over", Act::PassOver)?;
-    assert!(rt; passes, "passes over");
     Ok(())
 }
 
