@@ -1,5 +1,5 @@
-# What serve.sh, crash.sh and shop.sh share: processes that run beside the script, and what they print. The script names the
-# repository in `top` first.
+# What serve.sh, crash.sh, shop.sh and tls.sh share: processes that run beside the script, and what they print. The script names
+# the repository in `top` first.
 room=$(mktemp -d) || exit 1
 failed=0
 # the nodes end with the script, whose status is 1 where something was wrong
@@ -23,8 +23,8 @@ start() {
   exit 1
 }
 
-# `begin ROLE PORT TURNS` starts a node, as `start` does.
-begin() { start "$1" "$top/atx" "$1" --listen "127.0.0.1:$2" --journal "$room/$1" --turns "$3"; }
+# `begin ROLE PORT [TURNS]` starts a node, as `start` does.
+begin() { start "$1" "$top/atx" "$1" --listen "127.0.0.1:$2" --journal "$room/$1" ${3:+--turns "$3"}; }
 
 # `kills NAME` ends a process by signal 9.
 kills() { { kill -9 "${!1}"; wait "${!1}"; } 2>/dev/null; }

@@ -34,7 +34,7 @@ hold() {
   exit 1
 }
 
-begin coordinator 9001 1000
+begin coordinator 9001
 opens orders 9002
 opens payment 9003
 opens stock 9004
@@ -52,10 +52,8 @@ kills payment
 kills coordinator
 hold 'orders 3, money 40 (in doubt), stock 2'
 
-# a node does nothing by itself that wants a clock: a tick has it say its decision again
-begin coordinator 9001 1000
+# where nothing comes for a second the coordinator says its decision again
+begin coordinator 9001
 opens payment 9003
-"$top/atx" tick --to http://127.0.0.1:9001
-ended tick $?
 echo 'both come up again'
 hold 'orders 3, money 40, stock 2'

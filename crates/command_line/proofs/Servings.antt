@@ -1,6 +1,5 @@
 -- What a command that serves did, as the clauses of the top call say it.
-use Rattle.std.proofs.Common.{◌≡◌, ◌+◌, ◌<◌, arith, ℕ, List, [], ◌∷◌, ◌++◌, Bool, true, false, Option, Some, None, Ok, Err, IsTrue, length, take, nat_eq, ◌≤◌, ◌||◌, ◌⊎◌, inl, inr, refl, subst, sym, ap, ◌∙◌}
-use Rattle.std.specs.Prelude.{codes}
+use Rattle.std.proofs.Common.{◌≡◌, ◌+◌, ◌<◌, arith, ℕ, List, [], ◌∷◌, ◌++◌, Bool, true, false, Option, Some, None, Ok, Err, IsTrue, length, take, nat_eq, ◌≤◌, ◌||◌, ◌&&◌, ◌⊎◌, inl, inr, refl, subst, sym, ap, ◌∙◌}
 use Rattle.std.proofs.lemmas.Bool.{eqb-true}
 use Rattle.std.proofs.lemmas.List.{append-nil}
 use Rattle.std.specs.List.{list_any}
@@ -14,6 +13,7 @@ use Rattle.schedules.specs.declared.line.ScheduleError.TheVariants as errors
 use Rattle.schedules.specs.declared.initiator_line.InitiatorLine.{InitiatorLine}
 use Rattle.schedules.specs.declared.line.BadLine.{BadLine}
 use Rattle.serving.specs.Runs.{Serves}
+use Rattle.serving.specs.Services.{base_at}
 use Rattle.serving.specs.declared.service_end.Ended.{Ended}
 use Rattle.serving.specs.declared.service_end.Ended.TheVariants as endings
 use Rattle.site_model.specs.Source.{IsWhole}
@@ -21,10 +21,10 @@ use Rattle.site_model.specs.Told.{Told}
 use Rattle.clap.specs.Faults.{fault_of}
 use Rattle.clap.specs.Walk.{Text}
 use Rattle.command_line.specs.Commands.{whole}
-use Rattle.command_line.specs.Jobs.{IsInitiator, IsJobOf, Job, Role, Serving}
-use Rattle.command_line.specs.Jobs.Job.{Serve}
+use Rattle.command_line.specs.Jobs.{Filter, IsInitiator, IsJobOf, Job, Role, Serving}
+use Rattle.command_line.specs.Jobs.Job.{Filters, Serve}
 use Rattle.command_line.specs.Jobs.Role.{Coordinator, Initiator, Participant}
-use Rattle.command_line.specs.Reports.{bad_line, status_of}
+use Rattle.command_line.specs.Reports.{IsReport, bad_line, status_of}
 use Rattle.command_line.specs.Servings.{HasServed, Initiates, Refuses, initiates, is_initiator, role_of, status_by}
 use Rattle.command_line.specs.Views.{Leaves, Tells, meant_role, statuses_of}
 use Rattle.command_line.specs.declared.job.NoJob.{NoJob}
@@ -44,12 +44,13 @@ sink_failed endings.ListenerFailed e = absurd cc
 sink_failed endings.NoMemory e = absurd cc
 sink_failed endings.Spent e = absurd cc
 sink_failed endings.Full e = absurd cc
+sink_failed endings.Unmet e = absurd cc
 
 pub has_served : {S : Type 0} (told : S → Told) (s : Serving) (lines : List InitiatorLine) (role : Role_served) (ended : Ended) (status : ℕ) (x y : Option (List ℕ)) (old new : S)
-    → role ≡ role_of s.role → Serves told (record { base = codes "http://" ++ s.listen; journal = s.journal; listen = s.listen; role = role; limit = 4294967295; lines = lines; turns = s.turns }) ended x y old new
+    → role ≡ role_of s.role → Serves told (record { base = base_at s.listen s.base; journal = s.journal; listen = s.listen; role = role; limit = 4294967295; lines = lines; turns = s.turns }) ended x y old new
     → status ≡ status_by ended → HasServed told s lines status x y old new
 has_served told s lines role ended status x y old new e h is =
-    HasServed.served ended (subst (λ r. Serves told (record { base = codes "http://" ++ s.listen; journal = s.journal; listen = s.listen; role = r; limit = 4294967295; lines = lines; turns = s.turns }) ended x y old new) e h) is
+    HasServed.served ended (subst (λ r. Serves told (record { base = base_at s.listen s.base; journal = s.journal; listen = s.listen; role = r; limit = 4294967295; lines = lines; turns = s.turns }) ended x y old new) e h) is
 
 refused_as : (bad : BadLine) (status : ℕ) (a b : Bool) (x y : Option (List ℕ)) → nat_eq status 3 ≡ a → nat_eq status 5 ≡ b → IsTrue (a || (b || false))
     → (status ≡ 3 → Appends x y (bad_line bad)) → (n : ℕ) × ((n ≤ length (bad_line bad)) × Appends x y (take n (bad_line bad))) → Refuses bad status x y
@@ -131,6 +132,28 @@ unserved told words none.UnknownState s lines status x y old h j is quiet = absu
 unserved told words none.NoDestination s lines status x y old h j is quiet = absurd (h.0.0 (Serve s, j))
 unserved told words none.NoNumbers s lines status x y old h j is quiet = absurd (h.0.0 (Serve s, j))
 unserved told words none.NoServing s lines status x y old h j is quiet = absurd (h.0.0 (Serve s, j))
+unserved told words none.NoBase s lines status x y old h j is quiet = absurd (h.0.0 (Serve s, j))
+
+pub allowed : (may a b : Bool) → may ≡ true → may ≡ (a && b) → (a ≡ true) × (b ≡ true)
+allowed may true true t e = (refl, refl)
+allowed may true false t e = absurd cc
+allowed may false b t e = absurd cc
+
+-- a filter without faults reports, unless there was no memory for its words
+pub unreported : (words : List Text) (reason : NoJob) (filter : Filter) (input : List ℕ) (status : ℕ) (x y : Option (List ℕ)) → Tells words reason
+    → IsJobOf words (Filters filter) → IsTrue (list_any (nat_eq status) (statuses_of reason)) → Leaves reason (Appends x y []) → IsReport filter input x y status
+unreported words none.NoMemory filter input status x y h j is quiet = by (nat_eq status 9) refl is
+  where
+    by : (b : Bool) → nat_eq status 9 ≡ b → IsTrue (b || false) → IsReport filter input x y status
+    by true e f = inr (record { silent = quiet; cause = inl (eqb-true status 9 e) })
+    by false e f = absurd cc
+unreported words (none.Question text) filter input status x y h j is quiet = absurd (asks_nothing (fault_of whole words) j.0 h)
+unreported words (none.Refused text) filter input status x y h j is quiet = absurd (h.0.0 (Filters filter, j))
+unreported words none.UnknownState filter input status x y h j is quiet = absurd (h.0.0 (Filters filter, j))
+unreported words none.NoDestination filter input status x y h j is quiet = absurd (h.0.0 (Filters filter, j))
+unreported words none.NoNumbers filter input status x y h j is quiet = absurd (h.0.0 (Filters filter, j))
+unreported words none.NoServing filter input status x y h j is quiet = absurd (h.0.0 (Filters filter, j))
+unreported words none.NoBase filter input status x y h j is quiet = absurd (h.0.0 (Filters filter, j))
 
 -- who is no initiator leaves the source alone
 pub unread_by : (words : List Text) (s : Serving) (P : Type 0) → (IsInitiator words → ⊥) → IsJobOf words (Serve s) → (initiates s ≡ false → P) → P

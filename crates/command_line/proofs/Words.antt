@@ -14,7 +14,7 @@ use Rattle.command_line.specs.Views.{Says, SaysUnread, Tells, statuses_of, told,
 use Rattle.std.specs.List.{list_any}
 use Rattle.std.specs.Io.KnownBytes.{Appends}
 use Rattle.command_line.specs.declared.job.NoJob.{NoJob}
-use Rattle.command_line.specs.declared.job.NoJob.TheVariants.{NoDestination, NoMemory, NoNumbers, NoServing, Question, Refused, UnknownState}
+use Rattle.command_line.specs.declared.job.NoJob.TheVariants.{NoBase, NoDestination, NoMemory, NoNumbers, NoServing, Question, Refused, UnknownState}
 use Rattle.command_line.proofs.Purity.{IsPure, fault_is_pure}
 
 no_job : (words : List Text) → fault_of whole words ≢ [] → IsJob words → ⊥
@@ -44,12 +44,13 @@ told_of words error UnknownState h s = absurd s
 told_of words error NoDestination h s = absurd s
 told_of words error NoNumbers h s = absurd s
 told_of words error NoServing h s = absurd s
+told_of words error NoBase h s = absurd s
 
 pub asks_nothing : (kinds : Kinds) → kinds ≡ [] → IsTrue (asks kinds) → ⊥
 asks_nothing kinds e h = not_true (asks kinds) (ap asks e) h
 
 pub unread : (words : List Text) (found : Option (Text × List Row)) (name : Text) (rows : List Row) (answer : NoJob) → fault_of whole words ≡ [] → found ≡ subcommand_of whole words
-    → found ≡ Some (name, rows) → SaysUnread name answer → (IsJob words → ⊥) → Tells words answer
+    → found ≡ Some (name, rows) → SaysUnread name rows answer → (IsJob words → ⊥) → Tells words answer
 unread words found name rows NoMemory e f g h n = absurd h
 unread words found name rows (Question text) e f g h n = absurd h
 unread words found name rows (Refused text) e f g h n = absurd h
@@ -57,6 +58,7 @@ unread words found name rows UnknownState e f g h n = ((n, asks_nothing (fault_o
 unread words found name rows NoDestination e f g h n = ((n, asks_nothing (fault_of whole words) e), e, ap unread_text (sym f ∙ g) ∙ h)
 unread words found name rows NoNumbers e f g h n = ((n, asks_nothing (fault_of whole words) e), e, ap unread_text (sym f ∙ g) ∙ h)
 unread words found name rows NoServing e f g h n = ((n, asks_nothing (fault_of whole words) e), e, ap unread_text (sym f ∙ g) ∙ h)
+unread words found name rows NoBase e f g h n = ((n, asks_nothing (fault_of whole words) e), e, ap unread_text (sym f ∙ g) ∙ h)
 
 pub none_found : (words : List Text) (found : Option (Text × List Row)) → fault_of whole words ≡ [] → found ≡ subcommand_of whole words → found ≡ None → (IsJob words → ⊥)
     → Tells words UnknownState
@@ -76,3 +78,4 @@ unknown_said words UnknownState old new status h s t e f = subst (Appends old ne
 unknown_said words NoDestination old new status h s t e f = subst (Appends old new) (sym h.2) (t (not_five status e))
 unknown_said words NoNumbers old new status h s t e f = subst (Appends old new) (sym h.2) (t (not_five status e))
 unknown_said words NoServing old new status h s t e f = subst (Appends old new) (sym h.2) (t (not_five status e))
+unknown_said words NoBase old new status h s t e f = subst (Appends old new) (sym h.2) (t (not_five status e))

@@ -55,9 +55,10 @@ filters = with_subcommand (with_subcommand (with_subcommand top cell.top) check.
 abbrev pub printing : App
 printing = with_subcommand filters make.top
 
--- `NAME --listen ADDR --journal F --turns N`
+-- `NAME --listen ADDR [--base URL] --journal F [--turns N]`
 abbrev pub serving : Text → App
-serving name = with_rule (with_rule (with_rule (new_app name) (wanted (codes "listen"))) (wanted (codes "journal"))) (wanted (codes "turns"))
+serving name =
+    with_rule (with_rule (with_rule (with_rule (new_app name) (wanted (codes "listen"))) (valued (codes "base"))) (wanted (codes "journal"))) (valued (codes "turns"))
 
 -- with the command that posts
 abbrev pub posting : App

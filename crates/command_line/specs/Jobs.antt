@@ -1,5 +1,5 @@
 -- What the words are: a job, a question for the help or the version, or faulty.
-use Rattle.std.specs.Prelude.{ℕ, List, [], ◌∷◌, ◌++◌, ◌-◌, ◌^◌, ◌≡◌, Bool, true, false, ◌&&◌, ◌||◌, ◌==◌, bytes_eq, decimal, nat_le, length, if◌then◌else◌, Option, Some, None, Ok, codes, IsSomeAnd, IsTrue}
+use Rattle.std.specs.Prelude.{ℕ, List, [], ◌∷◌, ◌++◌, ◌-◌, ◌^◌, ◌≡◌, Bool, true, false, ◌&&◌, ◌||◌, ◌==◌, bytes_eq, decimal, drop, is_some, nat_le, not, length, take, if◌then◌else◌, Option, Some, None, Ok, codes, IsSomeAnd, IsTrue}
 use Rattle.std.specs.List.{list_all}
 use Rattle.at_base.specs.declared.limits.TheConstants.{MOST_ENDPOINT}
 use Rattle.addressing.specs.PostAddresses.{post_to_of}
@@ -42,10 +42,12 @@ role_name Coordinator = codes "coordinator"
 role_name Participant = codes "participant"
 role_name Initiator = codes "initiator"
 
--- a node that takes so many connections at an address, with its journal in a file of that name
+-- a node that takes so many connections at an address, and that others reach at a base where one is given, with its journal in a
+-- file of that name
 pub record Serving : Type 0 where
   pub role : Role
   pub listen : List ℕ
+  pub base : Option (List ℕ)
   pub journal : List ℕ
   pub turns : ℕ
 
@@ -112,10 +114,37 @@ IsNoDelimiter b = is_delimiter b ≡ false
 abbrev pub HasBase : List ℕ → Type 0
 HasBase listen = (to : PostTo) → post_to_of (codes "http://" ++ listen) ≡ Some to → (to.port ≡ 80 → ⊥) → IsBase (codes "http://" ++ listen)
 
+-- what stands behind this text
+abbrev pub behind : List ℕ → List ℕ → Option (List ℕ)
+behind prefix bytes = if bytes_eq (take (length prefix) bytes) prefix then Some (drop (length prefix) bytes) else None
+
+abbrev pub is_address_there : Option (List ℕ) → Bool
+is_address_there (Some address) = is_address address
+is_address_there None = false
+
+-- how others reach a node: `http://` and an address
+abbrev pub is_base : List ℕ → Bool
+is_base base = is_address_there (behind (codes "http://") base)
+
+-- every address of a machine (RFC 1122, section 3.2.1.3; RFC 4291, section 2.5.2), at which nobody else reaches it
+abbrev pub is_wildcard : List ℕ → Bool
+is_wildcard listen = is_some (behind (codes "0.0.0.0:") listen) || is_some (behind (codes "[::]:") listen)
+
+-- others reach the node: at the base that is given, or else where it listens
+abbrev pub is_reached : List ℕ → Option (List ℕ) → Bool
+is_reached listen (Some base) = is_base base
+is_reached listen None = not (is_wildcard listen)
+
+-- how many connections: no end of them, where none is said
+abbrev pub MeansTurns : Option Text → ℕ → Type 0
+MeansTurns None turns = turns ≡ 2 ^ 64 - 1
+MeansTurns (Some word) turns = number_in 0 (2 ^ 32 - 1) word ≡ Ok turns
+
 abbrev pub MeansServing : Text → List Row → Serving → Type 0
 MeansServing name rows s =
     (name ≡ role_name s.role) × (first_of (codes "listen") rows ≡ Some s.listen) × (is_address s.listen ≡ true)
-    × (first_of (codes "journal") rows ≡ Some s.journal) × IsSomeAnd (first_of (codes "turns") rows) (λ word. number_in 0 (2 ^ 32 - 1) word ≡ Ok s.turns)
+    × (first_of (codes "base") rows ≡ s.base) × (is_reached s.listen s.base ≡ true)
+    × (first_of (codes "journal") rows ≡ Some s.journal) × MeansTurns (first_of (codes "turns") rows) s.turns
 
 -- a command of this name, with these values of its options, is the job
 abbrev pub Means : Text → List Row → Job → Type 0

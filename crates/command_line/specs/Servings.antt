@@ -1,11 +1,12 @@
 -- What the commands that serve do.
-use Rattle.std.specs.Prelude.{ℕ, List, [], ◌++◌, ◌∷◌, ◌≡◌, ◌≤◌, ◌⊎◌, Bool, true, false, Ok, Err, Option, IfSome, IsTrue, length, nat_eq, take, codes}
+use Rattle.std.specs.Prelude.{ℕ, List, [], ◌++◌, ◌∷◌, ◌≡◌, ◌≤◌, ◌⊎◌, Bool, true, false, Ok, Err, Option, IfSome, IsTrue, length, nat_eq, take}
 use Rattle.std.specs.List.{list_any}
 use Rattle.std.specs.Io.KnownBytes.{Appends}
 use Rattle.schedules.specs.InitiatorLines.{initiator_lines_of}
 use Rattle.schedules.specs.declared.initiator_line.InitiatorLine.{InitiatorLine}
 use Rattle.schedules.specs.declared.line.BadLine.{BadLine}
 use Rattle.serving.specs.Runs.{Serves, Serviced}
+use Rattle.serving.specs.Services.{base_at}
 use Rattle.serving.specs.declared.service_end.Ended.{Ended}
 use Rattle.serving.specs.declared.service_end.Ended.TheVariants as endings
 use Rattle.node_at.specs.declared.role.Role.{Role as Served}
@@ -29,9 +30,9 @@ is_initiator Initiator = true
 abbrev pub journal_limit : ℕ
 journal_limit = 4294967295
 
--- its base is `http://` and its address; what is opened are the journal and the address of the words
+-- its base is the one that is given, or else `http://` and its address; what is opened are the journal and the address of the words
 abbrev pub service_of : Serving → List InitiatorLine → Serviced
-service_of s lines = record { base = codes "http://" ++ s.listen; journal = s.journal; listen = s.listen; role = role_of s.role; limit = journal_limit; lines = lines; turns = s.turns }
+service_of s lines = record { base = base_at s.listen s.base; journal = s.journal; listen = s.listen; role = role_of s.role; limit = journal_limit; lines = lines; turns = s.turns }
 
 -- the status that serving ends with
 abbrev pub status_by : Ended → ℕ
@@ -44,6 +45,7 @@ status_by endings.ListenerFailed = 8
 status_by endings.NoMemory = 9
 status_by endings.Spent = 11
 status_by endings.Full = 12
+status_by endings.Unmet = 13
 
 -- It served these lines and so many turns, and ended so; or there was no memory to begin, and nothing was done.
 pub data HasServed {S : Type 0} (told : S → Told) (s : Serving) (lines : List InitiatorLine) (status : ℕ) (before after : Option (List ℕ)) (old new : S) : Type 0 where

@@ -1,8 +1,8 @@
 -- The job that the program's own names, and what stands where the words are none.
-use Rattle.std.specs.Prelude.{ℕ, List, string_bytes, ◌∷◌, [], ◌≡◌, ◌≢◌, codes, true, false, if◌then◌else◌, bytes_eq, Option, Some, None}
+use Rattle.std.specs.Prelude.{ℕ, List, string_bytes, ◌∷◌, [], ◌≡◌, ◌≢◌, codes, Bool, true, false, if◌then◌else◌, bytes_eq, Option, Some, None, option_map}
 use Rattle.clap.specs.Simple.{subcommand_of}
 use Rattle.clap.specs.Faults.{fault_of}
-use Rattle.clap.specs.Walk.{Row, Text}
+use Rattle.clap.specs.Walk.{Row, Text, first_of}
 use Rattle.clap.specs.declared.error.kind.ErrorKind.{ErrorKind}
 use Rattle.clap.specs.declared.error.kind.ErrorKind.TheVariants.{OutOfMemory}
 use Rattle.command_line.specs.declared.job.Job.{Job as Named}
@@ -15,7 +15,7 @@ use Rattle.command_line.specs.declared.job.Filter.TheVariants as filters
 use Rattle.command_line.specs.declared.job.Role.{Role as NamedRole}
 use Rattle.command_line.specs.declared.job.Role.TheVariants as roles
 use Rattle.command_line.specs.declared.job.Serving.{Serving as NamedServing}
-use Rattle.command_line.specs.Jobs.{Filter, IsFaulty, IsQuestion, Job, Role, Serving, asks_for}
+use Rattle.command_line.specs.Jobs.{Filter, IsFaulty, IsQuestion, Job, Role, Serving, asks_for, is_wildcard}
 use Rattle.command_line.specs.Jobs.Role.{Coordinator, Participant, Initiator}
 use Rattle.command_line.specs.Jobs.Filter.{Cell, Check, Replay}
 use Rattle.command_line.specs.Jobs.Job.{Filters, Make, Serve, Tick}
@@ -31,7 +31,7 @@ meant_role roles.Participant = Participant
 meant_role roles.Initiator = Initiator
 
 abbrev pub meant_serving : NamedServing → Serving
-meant_serving s = record { role = meant_role s.role; listen = s.listen.now; journal = s.journal.now; turns = s.turns }
+meant_serving s = record { role = meant_role s.role; listen = s.listen.now; base = option_map (λ b. b.now) s.base; journal = s.journal.now; turns = s.turns }
 
 abbrev pub meant : Named → Job
 meant (named.Filter filter) = Filters (meant_filter filter)
@@ -51,20 +51,33 @@ no_destination = codes "error: invalid value for '--to <URL>'\n  [an http URL, w
 unfoldable pub no_numbers : List ℕ
 no_numbers = codes "error: invalid value for '--seed <SEED>' or '--steps <N>'\n  [SEED: 0 to 18446744073709551615; N: 0 to 9999]\n\nFor more information, try '--help'.\n"
 
--- or what the address and the number of a node that serves are
+-- or what the address, the base and the number of a node that serves are
 unfoldable pub no_serving : List ℕ
-no_serving = codes "error: invalid value for '--listen <ADDR>' or '--turns <N>'\n  [ADDR: HOST:PORT of at most 1000 bytes, as http URLs are normalized, PORT 1 to 65535; N: 0 to 4294967295]\n\nFor more information, try '--help'.\n"
+no_serving = codes "error: invalid value for '--listen <ADDR>', '--base <URL>' or '--turns <N>'\n  [ADDR: HOST:PORT of at most 1000 bytes, as http URLs are normalized, PORT 1 to 65535; URL: http:// and such an ADDR; N: 0 to 4294967295]\n\nFor more information, try '--help'.\n"
 
--- of the command of this name
-abbrev pub unread_at : Text → List ℕ
-unread_at name =
+-- or that nobody reaches a node at every address of its machine
+unfoldable pub no_base : List ℕ
+no_base = codes "error: '--listen <ADDR>' is every address of this machine, at which no other node reaches it\n  [say by '--base <URL>' how others reach it, as http://h.example:9001]\n\nFor more information, try '--help'.\n"
+
+-- it would listen at every address of its machine, and no base is given
+abbrev pub is_unreached : Option Text → Option Text → Bool
+is_unreached (Some listen) None = is_wildcard listen
+is_unreached (Some listen) (Some base) = false
+is_unreached None base = false
+
+abbrev pub unread_serving : List Row → List ℕ
+unread_serving rows = if is_unreached (first_of (codes "listen") rows) (first_of (codes "base") rows) then no_base else no_serving
+
+-- of the command of this name, with these values of its options
+abbrev pub unread_at : Text → List Row → List ℕ
+unread_at name rows =
     if bytes_eq name (codes "tick") then no_destination
     else if bytes_eq name (codes "make") then no_numbers
     else if bytes_eq name (codes "cell") then unknown_state
-    else no_serving
+    else unread_serving rows
 
 abbrev pub unread_text : Option (Text × List Row) → List ℕ
-unread_text (Some found) = unread_at found.0
+unread_text (Some found) = unread_at found.0 found.1
 unread_text None = unknown_state
 
 -- clap refuses the words, or only a value doesn't read
@@ -76,6 +89,7 @@ Tells words none.UnknownState = IsFaulty words × (fault_of whole words ≡ []) 
 Tells words none.NoDestination = IsFaulty words × (fault_of whole words ≡ []) × (unread_text (subcommand_of whole words) ≡ no_destination)
 Tells words none.NoNumbers = IsFaulty words × (fault_of whole words ≡ []) × (unread_text (subcommand_of whole words) ≡ no_numbers)
 Tells words none.NoServing = IsFaulty words × (fault_of whole words ≡ []) × (unread_text (subcommand_of whole words) ≡ no_serving)
+Tells words none.NoBase = IsFaulty words × (fault_of whole words ≡ []) × (unread_text (subcommand_of whole words) ≡ no_base)
 
 -- what an error of clap's says, by its kind
 abbrev pub Says : ErrorKind → NoJob → Type 0
@@ -86,14 +100,21 @@ Says kind none.UnknownState = ⊥
 Says kind none.NoDestination = ⊥
 Says kind none.NoNumbers = ⊥
 Says kind none.NoServing = ⊥
+Says kind none.NoBase = ⊥
 
--- what a value that doesn't read says, by the command's name
-abbrev pub SaysUnread : Text → NoJob → Type 0
-SaysUnread name none.UnknownState = unread_at name ≡ unknown_state
-SaysUnread name none.NoDestination = unread_at name ≡ no_destination
-SaysUnread name none.NoNumbers = unread_at name ≡ no_numbers
-SaysUnread name none.NoServing = unread_at name ≡ no_serving
-SaysUnread name _ = ⊥
+-- what a value that doesn't read says, by the command's name and the values of its options
+abbrev pub SaysUnread : Text → List Row → NoJob → Type 0
+SaysUnread name rows none.UnknownState = unread_at name rows ≡ unknown_state
+SaysUnread name rows none.NoDestination = unread_at name rows ≡ no_destination
+SaysUnread name rows none.NoNumbers = unread_at name rows ≡ no_numbers
+SaysUnread name rows none.NoServing = unread_at name rows ≡ no_serving
+SaysUnread name rows none.NoBase = unread_at name rows ≡ no_base
+SaysUnread name rows _ = ⊥
+
+abbrev pub SaysServing : List Row → NoJob → Type 0
+SaysServing rows none.NoServing = unread_serving rows ≡ no_serving
+SaysServing rows none.NoBase = unread_serving rows ≡ no_base
+SaysServing rows _ = ⊥
 
 -- the statuses that it ends with
 abbrev pub statuses_of : NoJob → List ℕ
@@ -104,6 +125,7 @@ statuses_of none.UnknownState = 2 ∷ 5 ∷ []
 statuses_of none.NoDestination = 2 ∷ 5 ∷ []
 statuses_of none.NoNumbers = 2 ∷ 5 ∷ []
 statuses_of none.NoServing = 2 ∷ 5 ∷ []
+statuses_of none.NoBase = 2 ∷ 5 ∷ []
 
 -- what is printed of it
 abbrev pub told : NoJob → List ℕ
@@ -114,6 +136,7 @@ told none.UnknownState = unknown_state
 told none.NoDestination = no_destination
 told none.NoNumbers = no_numbers
 told none.NoServing = no_serving
+told none.NoBase = no_base
 
 -- where nothing is said, this holds
 abbrev pub Leaves : NoJob → Type 0 → Type 0

@@ -124,9 +124,9 @@ fn listen<'a>(alloc: Global) -> Arg<'a>
     ensures rule { rule_of result ≡ wanted (codes "listen") }
     ensures local { result.global ≡ false }
 {
-    valued(alloc, "listen", "ADDR").required(true).help(
-        "The address at which other nodes reach this one, as 127.0.0.1:9001",
-    )
+    valued(alloc, "listen", "ADDR")
+        .required(true)
+        .help("The address at which it listens, as 127.0.0.1:9001")
 }
 
 /// `--journal F`.
@@ -139,45 +139,56 @@ fn journal<'a>(alloc: Global) -> Arg<'a>
     )
 }
 
-/// `--turns N`.
-fn turns<'a>(alloc: Global) -> Arg<'a>
-    ensures rule { rule_of result ≡ wanted (codes "turns") }
+/// `--base URL`.
+fn base<'a>(alloc: Global) -> Arg<'a>
+    ensures rule { rule_of result ≡ valued (codes "base") }
     ensures local { result.global ≡ false }
 {
-    valued(alloc, "turns", "N")
-        .required(true)
-        .help("How many connections are served")
+    valued(alloc, "base", "URL").help(
+        "How other nodes reach this one, as http://h.example:9001, where that isn't http:// and ADDR",
+    )
 }
 
-/// `coordinator --listen ADDR --journal F --turns N`.
+/// `--turns N`.
+fn turns<'a>(alloc: Global) -> Arg<'a>
+    ensures rule { rule_of result ≡ valued (codes "turns") }
+    ensures local { result.global ≡ false }
+{
+    valued(alloc, "turns", "N").help("How many connections are served; without it no end of them")
+}
+
+/// `coordinator --listen ADDR [--base URL] --journal F [--turns N]`.
 fn coordinator<'a>(alloc: Global) -> Result<Command<'a>, AllocError>
     ensures { IfOk result (IsCommand (serving (codes "coordinator"))) }
 {
     Command::new(alloc, "coordinator")
         .about("Serve as a coordinator")
         .arg(listen(alloc))?
+        .arg(base(alloc))?
         .arg(journal(alloc))?
         .arg(turns(alloc))
 }
 
-/// `participant --listen ADDR --journal F --turns N`.
+/// `participant --listen ADDR [--base URL] --journal F [--turns N]`.
 fn participant<'a>(alloc: Global) -> Result<Command<'a>, AllocError>
     ensures { IfOk result (IsCommand (serving (codes "participant"))) }
 {
     Command::new(alloc, "participant")
         .about("Serve as a participant")
         .arg(listen(alloc))?
+        .arg(base(alloc))?
         .arg(journal(alloc))?
         .arg(turns(alloc))
 }
 
-/// `initiator --listen ADDR --journal F --turns N`.
+/// `initiator --listen ADDR [--base URL] --journal F [--turns N]`.
 fn initiator<'a>(alloc: Global) -> Result<Command<'a>, AllocError>
     ensures { IfOk result (IsCommand (serving (codes "initiator"))) }
 {
     Command::new(alloc, "initiator")
         .about("Do the lines of the input as an initiator, and serve")
         .arg(listen(alloc))?
+        .arg(base(alloc))?
         .arg(journal(alloc))?
         .arg(turns(alloc))
 }

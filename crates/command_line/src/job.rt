@@ -1,7 +1,7 @@
 //! The job that the words name.
 
 ghost use Rattle.std.specs.List.{list_all};
-ghost use Rattle.std.specs.Prelude.{ℕ, ◌≡◌, ◌≢◌, ◌++◌, [], All, Bool, IfOk, IfErr, IfSome, IsSomeAnd, IsTrue, Some, codes, decimal, map, option_map, string_bytes, unwrap_or};
+ghost use Rattle.std.specs.Prelude.{ℕ, ◌≡◌, ◌≢◌, ◌++◌, [], All, Bool, IfOk, IfErr, IfSome, IsSomeAnd, IsTrue, Some, ◌&&◌, codes, decimal, map, option_map, string_bytes, unwrap_or};
 ghost use Rattle.addressing.specs.PostAddresses.{postable};
 ghost use Rattle.addressing.specs.declared.post_to.PostTo.{PostTo as MeantTo};
 ghost use Rattle.clap.specs.Faults.{fault_of};
@@ -11,8 +11,8 @@ ghost use Rattle.clap.specs.Walk.{first_of, rows_of};
 ghost use Rattle.clap.specs.Matches.{found_of};
 ghost use Rattle.clap.specs.Values.{kind_of};
 ghost use Rattle.command_line.specs.Commands.{whole};
-ghost use Rattle.command_line.specs.Jobs.{Filter as MeantFilter, HasBase, IsJobOf, IsNoDelimiter, Job as Meant, Means, MeansFilter, MeansMade, MeansServing, Role as MeantRole, Serving as MeantServing, flag_text, is_address, is_authority, is_visible, role_name, tick_to};
-ghost use Rattle.command_line.specs.Views.{Says, SaysUnread, Tells, meant, meant_filter, meant_role, meant_serving};
+ghost use Rattle.command_line.specs.Jobs.{Filter as MeantFilter, HasBase, IsJobOf, IsNoDelimiter, Job as Meant, Means, MeansFilter, MeansMade, MeansServing, MeansTurns, Role as MeantRole, Serving as MeantServing, flag_text, is_address, is_authority, is_base, is_reached, is_visible, is_wildcard, role_name, tick_to};
+ghost use Rattle.command_line.specs.Views.{Says, SaysServing, SaysUnread, Tells, is_unreached, meant, meant_filter, meant_role, meant_serving};
 ghost use Rattle.url.specs.Host.{host_text};
 ghost use Rattle.url.specs.Parts.{IsValid, nonempty_host};
 
@@ -49,16 +49,18 @@ pub enum Role {
     Initiator,
 }
 
-/// A node that serves: `ROLE --listen ADDR --journal F --turns N`.
+/// A node that serves: `ROLE --listen ADDR [--base URL] --journal F [--turns N]`.
 #[derive(Clone, Copy, Debug, PartialEq, Eq)]
 pub struct Serving<'a> {
     pub role: Role,
-    /// The host and the port where it listens; with `http://` before it the node's base.
+    /// The host and the port where it listens.
     pub listen: &'a str,
+    /// The node's base, by which others reach it; `http://` and the address where none is given.
+    pub base: Option<&'a str>,
     /// The name of the journal's first file.
     pub journal: &'a str,
-    /// How many connections it serves.
-    pub turns: u32,
+    /// How many connections it serves: 2^64 - 1, no end of them, where that isn't said.
+    pub turns: u64,
 }
 
 /// What is to be done.
@@ -87,8 +89,10 @@ pub enum NoJob {
     NoDestination,
     /// No schedule is made of these numbers.
     NoNumbers,
-    /// No node listens there, or serves so many connections.
+    /// No node listens there, is reached there, or serves so many connections.
     NoServing,
+    /// It would listen at every address of its machine, and nothing says how others reach it.
+    NoBase,
 }
 
 /// The most lines that are made of a seed.
@@ -245,6 +249,57 @@ fn role_of(name: &str) -> Option<Role>
     }
 }
 
+/// Whether others reach a node there.
+fn is_base(alloc: Global, base: &str) -> Result<bool, AllocError>
+    ensures { IfOk result (λ is. is ≡ is_base base.now) }
+{
+    match base.strip_prefix("http://") {
+        Some(address) => is_address(alloc, address),
+        None => Ok(false),
+    }
+}
+
+/// Whether that is every address of a machine.
+fn is_wildcard(listen: &str) -> bool
+    ensures { result ≡ is_wildcard listen.now }
+{
+    listen.strip_prefix("0.0.0.0:").is_some() || listen.strip_prefix("[::]:").is_some()
+}
+
+/// Whether others reach a node that listens there, under the base that is given or else there.
+fn is_reached(alloc: Global, listen: &str, base: Option<&str>) -> Result<bool, AllocError>
+    ensures { IfOk result (λ is. is ≡ is_reached listen.now (option_map (λ b. b.now) base.entry)) }
+{
+    match base {
+        Some(base) => is_base(alloc, base),
+        None => Ok(!is_wildcard(listen)),
+    }
+}
+
+/// Whether a node may listen at this address, and others reach it there or under this base.
+fn may_serve(alloc: Global, listen: &str, base: Option<&str>) -> Result<bool, AllocError>
+    ensures { IfOk result (λ may. may ≡ (is_address listen.now && is_reached listen.now (option_map (λ b. b.now) base.entry))) }
+{
+    if !is_address(alloc, listen)? {
+        return Ok(false);
+    }
+    is_reached(alloc, listen, base)
+}
+
+/// How many connections the matches of a command that serves name.
+fn read_turns(found: &ArgMatches<'_>) -> Option<u64>
+    ensures found { IfSome result (λ turns. MeansTurns (first_of (codes "turns") (rows_of (found_of found.now))) turns) }
+    ensures every { (turns : ℕ) → MeansTurns (first_of (codes "turns") (rows_of (found_of found.now))) turns → result ≡ Some turns }
+{
+    let Some(word) = text_at(found, "turns") else {
+        return Some(u64::MAX);
+    };
+    match read_number(word, 0, u32::MAX) {
+        Ok(turns) => Some(u64::from(turns)),
+        Err(_) => None,
+    }
+}
+
 /// The node that the matches of a command are. None exactly where they are none.
 fn read_serving<'a>(
     alloc: Global,
@@ -263,21 +318,20 @@ fn read_serving<'a>(
     let Some(journal) = text_at(found, "journal") else {
         return Ok(None);
     };
-    let Some(word) = text_at(found, "turns") else {
+    let Some(turns) = read_turns(found) else {
         return Ok(None);
     };
-    if !is_address(alloc, listen)? {
+    let base = text_at(found, "base");
+    if !may_serve(alloc, listen, base)? {
         return Ok(None);
     }
-    match read_number(word, 0, u32::MAX) {
-        Ok(turns) => Ok(Some(Serving {
-            role,
-            listen,
-            journal,
-            turns,
-        })),
-        Err(_) => Ok(None),
-    }
+    Ok(Some(Serving {
+        role,
+        listen,
+        base,
+        journal,
+        turns,
+    }))
 }
 
 /// A filter, or a node that serves.
@@ -321,15 +375,36 @@ fn read_job<'a>(
     }
 }
 
+/// Whether a node would listen at every address of its machine, and no base is given.
+fn is_unreached(listen: Option<&str>, base: Option<&str>) -> bool
+    ensures { result ≡ is_unreached (option_map (λ l. l.now) listen.entry) (option_map (λ b. b.now) base.entry) }
+{
+    match listen {
+        Some(listen) => base.is_none() && is_wildcard(listen),
+        None => false,
+    }
+}
+
+/// What is said where the value of an option of a command that serves doesn't read.
+fn unread_serving(found: &ArgMatches<'_>) -> NoJob
+    ensures { SaysServing (rows_of (found_of found.now)) result }
+{
+    if is_unreached(text_at(found, "listen"), text_at(found, "base")) {
+        NoJob::NoBase
+    } else {
+        NoJob::NoServing
+    }
+}
+
 /// What is said where the value of this command's option doesn't read.
-fn unread(name: &str) -> NoJob
-    ensures { SaysUnread name.now result }
+fn unread(name: &str, found: &ArgMatches<'_>) -> NoJob
+    ensures { SaysUnread name.now (rows_of (found_of found.now)) result }
 {
     match name {
         "tick" => NoJob::NoDestination,
         "make" => NoJob::NoNumbers,
         "cell" => NoJob::UnknownState,
-        _ => NoJob::NoServing,
+        _ => unread_serving(found),
     }
 }
 
@@ -367,7 +442,7 @@ pub fn job_of<'a>(alloc: Global, words: &'a [String]) -> Result<Job<'a>, NoJob>
     };
     match read_job(alloc, name, found) {
         Ok(Some(job)) => Ok(job),
-        Ok(None) => Err(unread(name)),
+        Ok(None) => Err(unread(name, found)),
         Err(_) => Err(NoJob::NoMemory),
     }
 }

@@ -36,10 +36,13 @@ pub const SPENT: u8 = 11;
 /// The journal has no room for one more start.
 pub const FULL: u8 = 12;
 
+/// All was done; but a line was refused, or an activity ended otherwise than committed.
+pub const UNMET: u8 = 13;
+
 /// The status that serving ends with.
 fn status_by(ended: Ended) -> u8
     ensures is { result ≡ status_by ended }
-    ensures statuses { IsTrue (list_any (nat_eq result) (0 ∷ 5 ∷ 6 ∷ 7 ∷ 8 ∷ 9 ∷ 11 ∷ 12 ∷ [])) }
+    ensures statuses { IsTrue (list_any (nat_eq result) (0 ∷ 5 ∷ 6 ∷ 7 ∷ 8 ∷ 9 ∷ 11 ∷ 12 ∷ 13 ∷ [])) }
 {
     match ended {
         Ended::Done => DONE,
@@ -51,6 +54,7 @@ fn status_by(ended: Ended) -> u8
         Ended::NoMemory => NO_MEMORY,
         Ended::Spent => SPENT,
         Ended::Full => FULL,
+        Ended::Unmet => UNMET,
     }
 }
 
@@ -75,11 +79,12 @@ pub(crate) fn attend<K: Sink, H: Site>(
 ) -> u8
     ensures served { HasServed H.told (meant_serving serving.now) lines.now result (K.contents sink.old) (K.contents sink.new) site.old site.new }
     ensures cause { result ≡ 5 → Rose (K.faults sink.old) (K.faults sink.new) }
-    ensures statuses { IsTrue (list_any (nat_eq result) (0 ∷ 5 ∷ 6 ∷ 7 ∷ 8 ∷ 9 ∷ 11 ∷ 12 ∷ [])) }
+    ensures statuses { IsTrue (list_any (nat_eq result) (0 ∷ 5 ∷ 6 ∷ 7 ∷ 8 ∷ 9 ∷ 11 ∷ 12 ∷ 13 ∷ [])) }
 {
     let service = Service {
         role: role_of(serving.role),
         listen: serving.listen,
+        base: serving.base,
         journal: serving.journal,
         limit: u32::MAX,
         lines,
@@ -117,7 +122,7 @@ pub(crate) fn initiate<S: Source, K: Sink, H: Site>(
     ensures too_long { result ≡ 10 → capped (S.given source.old + 1048577) ≤ S.given source.new }
     ensures not_longer { S.given source.old + 1048576 < S.given source.new → result ≡ 10 }
     ensures longer { result ≡ 10 → IfSome (S.left source.old) (λ input. 1048576 < length input) }
-    ensures statuses { IsTrue (list_any (nat_eq result) (0 ∷ 3 ∷ 4 ∷ 5 ∷ 6 ∷ 7 ∷ 8 ∷ 9 ∷ 10 ∷ 11 ∷ 12 ∷ [])) }
+    ensures statuses { IsTrue (list_any (nat_eq result) (0 ∷ 3 ∷ 4 ∷ 5 ∷ 6 ∷ 7 ∷ 8 ∷ 9 ∷ 10 ∷ 11 ∷ 12 ∷ 13 ∷ [])) }
 {
     let bytes = match read_all(alloc, source) {
         Ok(bytes) => bytes,
@@ -148,7 +153,7 @@ pub(crate) fn serve_node<S: Source, K: Sink, H: Site>(
     ensures too_long { result ≡ 10 → capped (S.given source.old + 1048577) ≤ S.given source.new }
     ensures not_longer { S.given source.old + 1048576 < S.given source.new → result ≡ 10 }
     ensures longer { result ≡ 10 → IfSome (S.left source.old) (λ input. 1048576 < length input) }
-    ensures statuses { IsTrue (list_any (nat_eq result) (0 ∷ 3 ∷ 4 ∷ 5 ∷ 6 ∷ 7 ∷ 8 ∷ 9 ∷ 10 ∷ 11 ∷ 12 ∷ [])) }
+    ensures statuses { IsTrue (list_any (nat_eq result) (0 ∷ 3 ∷ 4 ∷ 5 ∷ 6 ∷ 7 ∷ 8 ∷ 9 ∷ 10 ∷ 11 ∷ 12 ∷ 13 ∷ [])) }
 {
     match serving.role {
         Role::Initiator => initiate(alloc, serving, source, sink, site),

@@ -15,7 +15,7 @@ ghost use Rattle.command_line.specs.Servings.{HasServed, Initiates, initiates};
 ghost use Rattle.command_line.specs.Summaries.{IsSummed, IsSummedInPart};
 ghost use Rattle.net_replay.specs.declared.replay_error.ReplayError.TheVariants.{Full, NoMemory, TooManyEvents};
 ghost use Rattle.command_line.specs.Ticks.{FailedToTick, HasTicked};
-ghost use Rattle.command_line.specs.Views.{meant_filter, no_destination, no_numbers, no_serving, statuses_of, told, unknown_state, unread_text, Leaves};
+ghost use Rattle.command_line.specs.Views.{meant_filter, no_base, no_destination, no_numbers, no_serving, statuses_of, told, unknown_state, unread_text, Leaves};
 
 use crate::job::{Filter, Job, NoJob, job_of};
 use crate::make::make;
@@ -131,12 +131,21 @@ fn no_numbers() -> &'static str
 For more information, try '--help'.\n"
 }
 
-/// What is said of an address or a number of a node that serves.
+/// What is said of an address, a base or a number of a node that serves.
 fn no_serving() -> &'static str
     ensures { result.now ≡ no_serving }
 {
-    "error: invalid value for '--listen <ADDR>' or '--turns <N>'\n  \
-[ADDR: HOST:PORT of at most 1000 bytes, as http URLs are normalized, PORT 1 to 65535; N: 0 to 4294967295]\n\n\
+    "error: invalid value for '--listen <ADDR>', '--base <URL>' or '--turns <N>'\n  \
+[ADDR: HOST:PORT of at most 1000 bytes, as http URLs are normalized, PORT 1 to 65535; URL: http:// and such an ADDR; N: 0 to 4294967295]\n\n\
+For more information, try '--help'.\n"
+}
+
+/// What is said of a node that would listen at every address of its machine, and has no base.
+fn no_base() -> &'static str
+    ensures { result.now ≡ no_base }
+{
+    "error: '--listen <ADDR>' is every address of this machine, at which no other node reaches it\n  \
+[say by '--base <URL>' how others reach it, as http://h.example:9001]\n\n\
 For more information, try '--help'.\n"
 }
 
@@ -156,6 +165,7 @@ fn tell<K: Sink>(sink: &mut K, reason: &NoJob) -> u8
         NoJob::NoDestination => say(sink, no_destination(), NO_JOB),
         NoJob::NoNumbers => say(sink, no_numbers(), NO_JOB),
         NoJob::NoServing => say(sink, no_serving(), NO_JOB),
+        NoJob::NoBase => say(sink, no_base(), NO_JOB),
     }
 }
 
@@ -214,7 +224,7 @@ pub fn run<S: Source, K: Sink, H: Site>(
     sink: &mut K,
     site: &mut H,
 ) -> u8
-    ensures statuses { IsTrue (list_any (nat_eq result) (0 ∷ 2 ∷ 3 ∷ 4 ∷ 5 ∷ 6 ∷ 7 ∷ 8 ∷ 9 ∷ 10 ∷ 11 ∷ 12 ∷ 14 ∷ [])) }
+    ensures statuses { IsTrue (list_any (nat_eq result) (0 ∷ 2 ∷ 3 ∷ 4 ∷ 5 ∷ 6 ∷ 7 ∷ 8 ∷ 9 ∷ 10 ∷ 11 ∷ 12 ∷ 13 ∷ 14 ∷ [])) }
     ensures words { result ≡ 2 → IsFaulty (map string_bytes words.now) }
     ensures faulty { IsFaulty (map string_bytes words.now) → IsTrue (list_any (nat_eq result) (2 ∷ 5 ∷ 9 ∷ [])) }
     ensures question { IsQuestion (map string_bytes words.now) → IsTrue (list_any (nat_eq result) (0 ∷ 5 ∷ 9 ∷ [])) }

@@ -316,7 +316,7 @@ const FAULTY: &[(&str, &str)] = &[
         "error: unrecognized subcommand ''\n\nUsage: atx <COMMAND>\n",
     ),
     (
-        "help",
+        "help check cell",
         "error: unrecognized subcommand 'help'\n\nUsage: atx <COMMAND>\n",
     ),
     (
@@ -356,8 +356,8 @@ const FAULTY: &[(&str, &str)] = &[
         "error: the following required arguments were not provided:\n  --to <URL>\n\nUsage: atx tick --to <URL>\n",
     ),
     (
-        "coordinator --listen a --journal j",
-        "error: the following required arguments were not provided:\n  --turns <N>\n\nUsage: atx coordinator --listen <ADDR> --journal <F> --turns <N>\n",
+        "coordinator --listen a --turns 1",
+        "error: the following required arguments were not provided:\n  --journal <F>\n\nUsage: atx coordinator --listen <ADDR> --journal <F> --turns <N>\n",
     ),
     (
         "check --version",
@@ -415,6 +415,8 @@ const QUESTIONS: &[(&str, &str)] = &[
     ("--help", HELP),
     ("-h cell", HELP),
     ("check --help", CHECK_HELP),
+    ("help", HELP),
+    ("help check", CHECK_HELP),
 ];
 
 #[test]

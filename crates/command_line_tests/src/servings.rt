@@ -25,8 +25,14 @@ fn serves<H: Site>(
     Ok((status, sink.as_slice() == printed.as_bytes()))
 }
 
-const NO_SERVING: &str = "error: invalid value for '--listen <ADDR>' or '--turns <N>'\n  \
-[ADDR: HOST:PORT of at most 1000 bytes, as http URLs are normalized, PORT 1 to 65535; N: 0 to 4294967295]\n\n\
+const NO_SERVING: &str =
+    "error: invalid value for '--listen <ADDR>', '--base <URL>' or '--turns <N>'\n  \
+[ADDR: HOST:PORT of at most 1000 bytes, as http URLs are normalized, PORT 1 to 65535; URL: http:// and such an ADDR; N: 0 to 4294967295]\n\n\
+For more information, try '--help'.\n";
+
+const NO_BASE: &str =
+    "error: '--listen <ADDR>' is every address of this machine, at which no other node reaches it\n  \
+[say by '--base <URL>' how others reach it, as http://h.example:9001]\n\n\
 For more information, try '--help'.\n";
 
 /// Words, the input, the status, and what is printed, on a machine to which nobody connects.
@@ -46,7 +52,7 @@ const ROWS: &[(&str, &str, u8, &str)] = &[
     (
         "initiator --listen 127.0.0.1:9003 --journal j --turns 0",
         "begin http://127.0.0.1:9001 0\ncommit 1\nwait\n",
-        0,
+        13,
         "up 1\nrefused state\n",
     ),
     (
@@ -63,6 +69,80 @@ const ROWS: &[(&str, &str, u8, &str)] = &[
     ),
     (
         "coordinator --listen 127.0.0.1:9001 --journal j --turns 4294967296",
+        "",
+        2,
+        NO_SERVING,
+    ),
+    // no end of connections
+    (
+        "coordinator --listen 127.0.0.1:9001 --journal j",
+        "",
+        0,
+        "up 1\n",
+    ),
+    // another base than the address
+    (
+        "coordinator --listen 127.0.0.1:9001 --journal j --base http://h.example:80",
+        "",
+        0,
+        "up 1\n",
+    ),
+    (
+        "participant --base=http://[::1]:9 --listen 0.0.0.0:9001 --journal j",
+        "",
+        0,
+        "up 1\n",
+    ),
+    (
+        "coordinator --listen 0.0.0.0:9001 --journal j",
+        "",
+        2,
+        NO_BASE,
+    ),
+    (
+        "coordinator --listen [::]:1 --journal j --turns 05",
+        "",
+        2,
+        NO_BASE,
+    ),
+    (
+        "coordinator --listen 127.0.0.1:9001 --journal j --base http://h.example",
+        "",
+        2,
+        NO_SERVING,
+    ),
+    (
+        "coordinator --listen 127.0.0.1:9001 --journal j --base http://h.example:9001/",
+        "",
+        2,
+        NO_SERVING,
+    ),
+    (
+        "coordinator --listen 127.0.0.1:9001 --journal j --base http://h.example:9001/a",
+        "",
+        2,
+        NO_SERVING,
+    ),
+    (
+        "coordinator --listen 127.0.0.1:9001 --journal j --base http://h.example:9001?q",
+        "",
+        2,
+        NO_SERVING,
+    ),
+    (
+        "coordinator --listen 127.0.0.1:9001 --journal j --base https://h.example:9001",
+        "",
+        2,
+        NO_SERVING,
+    ),
+    (
+        "coordinator --listen 127.0.0.1:9001 --journal j --base h.example:9001",
+        "",
+        2,
+        NO_SERVING,
+    ),
+    (
+        "coordinator --listen [::]:1 --journal j --base http://h.example",
         "",
         2,
         NO_SERVING,

@@ -1,5 +1,6 @@
 //! The top call over sources and sinks in memory.
 
+use entry_point::help::heard;
 use command_line::run::run;
 use site_model::memory::{MemSink, MemSource};
 use site_model::sure_site::SureSite;
@@ -22,7 +23,7 @@ pub fn prints(
     input: &[u8],
     printed: &str,
 ) -> Result<(u8, bool), Fail> {
-    let words = words_of(rt.alloc(), line)?;
+    let words = heard(rt.alloc(), words_of(rt.alloc(), line)?)?;
     let mut source = MemSource::new(rt.alloc(), input)?;
     let mut sink = MemSink::new(rt.alloc());
     let status = run(

@@ -1,5 +1,5 @@
 -- What becomes of a job that is handed words, a source, a sink and a site.
-use Rattle.std.specs.Prelude.{ℕ, ◌≡◌, ◌⊎◌}
+use Rattle.std.specs.Prelude.{ℕ, List, ◌≡◌, ◌⊎◌}
 use Rattle.std.specs.Fn.{Once}
 use Rattle.std.specs.declared.io.ErrorKind.{ErrorKind}
 use Rattle.std.specs.declared.io.ErrorKind.TheVariants.{OutOfMemory}
@@ -10,10 +10,10 @@ abbrev pub status_without : ErrorKind → ℕ
 status_without OutOfMemory = 9
 status_without _ = 2
 
-module _ {F A W S K H : Type 0} (job : Once F (A × (Bor W × (MutBor S × (MutBor K × (MutBor H × Unit {0}))))) (ℕ × (MutBor S × (MutBor K × (MutBor H × Unit {0}))))) where
+module _ {F A W S K H : Type 0} (job : Once F (A × (Bor W × (MutBor S × (MutBor K × (MutBor H × Unit {0}))))) (ℕ × (MutBor S × (MutBor K × (MutBor H × Unit {0}))))) (bytes_of : W → List (List ℕ)) where
   -- The job f was called on these words, with the source, the sink and the site: by what it ensures it may give this
   -- status, and leave them so.
-  pub record Called (f : F) (alloc : A) (words : W) (status : ℕ) (source source' : S) (sink sink' : K) (site site' : H) : Type 0 where
+  pub record Called (f : F) (alloc : A) (words : List (List ℕ)) (status : ℕ) (source source' : S) (sink sink' : K) (site site' : H) : Type 0 where
     pub lent_words : Bor W
     pub lent_source : MutBor S
     pub lent_sink : MutBor K
@@ -22,7 +22,7 @@ module _ {F A W S K H : Type 0} (job : Once F (A × (Bor W × (MutBor S × (MutB
     pub left_sink : MutBor K
     pub left_site : MutBor H
     pub ensured : job.post f (alloc, (lent_words, (lent_source, (lent_sink, (lent_site, tt))))) (status, (left_source, (left_sink, (left_site, tt))))
-    pub of_words : lent_words.now ≡ words
+    pub of_words : bytes_of lent_words.now ≡ words
     pub of_source : lent_source.now ≡ source
     pub of_sink : lent_sink.now ≡ sink
     pub of_site : lent_site.now ≡ site
@@ -31,6 +31,6 @@ module _ {F A W S K H : Type 0} (job : Once F (A × (Bor W × (MutBor S × (MutB
     pub leaves_site : left_site.now ≡ site'
 
   -- It was called so; or there was no memory for the words, and all is as it was.
-  abbrev pub CalledOrNot : F → A → W → ℕ → S → S → K → K → H → H → Type 0
+  abbrev pub CalledOrNot : F → A → List (List ℕ) → ℕ → S → S → K → K → H → H → Type 0
   CalledOrNot f alloc words status source source' sink sink' site site' =
       Called f alloc words status source source' sink sink' site site' ⊎ ((status ≡ 9) × (source' ≡ source) × (sink' ≡ sink) × (site' ≡ site))

@@ -22,9 +22,12 @@ fn takes_its_first(alloc: Global, peer: &mut Peer) -> bool {
     peer.take(alloc, WORK) == 202 && peer.has_posted(1, "n2.example", REGISTER)
 }
 
-/// Whether the node is as it started: its journal has no more records, nothing was posted, and no id was drawn.
+/// Whether the node is as it started: its journal has no more records, nothing was posted or happened, and no id was drawn.
 fn is_fresh(alloc: Global, peer: &mut Peer) -> bool {
-    peer.holds(FRESH) && peer.posts() == 0 && takes_its_first(alloc, peer)
+    peer.holds(FRESH)
+        && peer.posts() == 0
+        && peer.effects().is_empty()
+        && takes_its_first(alloc, peer)
 }
 
 /// What a fresh node answers to these bytes, and whether nothing else came of them.
@@ -66,6 +69,8 @@ enum Place {
     Body,
     /// It is opened there so many times, and closed again.
     Nested,
+    /// Behind the envelope.
+    Behind,
 }
 
 /// The header's end and the Key.
@@ -91,10 +96,19 @@ fn push_body(all: &mut String, place: Place, text: &str, count: u32) -> Result<(
     all.push_str(END)
 }
 
+/// What stands behind the envelope.
+fn push_rest(all: &mut String, place: Place, text: &str, count: u32) -> Result<(), AllocError> {
+    if place == Place::Behind {
+        push_times(all, text, count)?;
+    }
+    Ok(())
+}
+
 fn work(alloc: Global, place: Place, text: &str, count: u32) -> Result<String, AllocError> {
     let mut all = String::from_str(alloc, HEADER)?;
     push_key(&mut all, place, text, count)?;
     push_body(&mut all, place, text, count)?;
+    push_rest(&mut all, place, text, count)?;
     Ok(all)
 }
 
@@ -171,6 +185,9 @@ const WORKS: &[(Place, &str, u32, u16)] = &[
     // there are 17 elements without these, and 4,096 with them
     (Place::Body, "<x/>", 4079, 202),
     (Place::Body, "<x/>", 4080, 500),
+    // the envelope has 785 bytes, and 65,536 with the white space behind it
+    (Place::Behind, " ", 64_751, 202),
+    (Place::Behind, " ", 64_752, 413),
     // a second Action
     (
         Place::Header,
@@ -186,29 +203,42 @@ fn each_limit_has_two_sides(rt: HostRuntime) -> Result<(), Fail> {
     for (place, text, count, status) in WORKS {
         let found = answer_to_work(rt.alloc(), *place, text, *count)?;
         assert!(rt;
-            found == (*status, *status == 500),
+            found == (*status, *status != 202),
             "{text} {count}: {found:?}"
         );
     }
     Ok(())
 }
 
-/// A chunked body up to its first chunk.
+/// A head before chunks, and one with a field that is still open.
 const CHUNKED: &str =
     "POST /work HTTP/1.1\r\nHost: n1.example\r\nTransfer-Encoding: chunked\r\n\r\n";
 
-/// A chunk line, so many bytes, and what stands behind them.
-type Chunk = (&'static str, u32, &'static str);
+const OPEN: &str = "POST /work HTTP/1.1\r\nHost: n1.example\r\nContent-Length: 785\r\nF: ";
+
+/// A chunk line, a text so many times, and what stands behind it.
+type Chunk = (&'static str, &'static str, u32, &'static str);
 
 fn push_chunk(all: &mut String, chunk: &Chunk) -> Result<(), AllocError> {
-    let (line, bytes, behind) = chunk;
+    let (line, text, count, behind) = chunk;
     all.push_str(line)?;
-    push_times(all, "a", *bytes)?;
+    push_times(all, text, *count)?;
     all.push_str(behind)
 }
 
+/// A Work, here behind a head.
+fn push_work(all: &mut String) -> Result<(), AllocError> {
+    all.push_str(HEADER)?;
+    push_key(all, Place::Key, "k", 1)?;
+    push_body(all, Place::Key, "", 0)
+}
+
+/// A Work in a chunk of 792 bytes with its line, and more chunks behind it.
 fn chunked(alloc: Global, chunks: &[Chunk]) -> Result<String, AllocError> {
     let mut all = String::from_str(alloc, CHUNKED)?;
+    all.push_str("311\r\n")?;
+    push_work(&mut all)?;
+    all.push_str("\r\n")?;
     for chunk in chunks {
         push_chunk(&mut all, chunk)?;
     }
@@ -220,40 +250,34 @@ fn answer_to_chunks(alloc: Global, chunks: &[Chunk]) -> Result<(u16, bool), Allo
     answer(alloc, bytes.as_bytes())
 }
 
-/// What is sent in chunks, and what is answered. What is within the limits is no XML.
+/// What comes in chunks behind a Work, and what is answered.
 const CHUNKS: &[(&str, &[Chunk], u16)] = &[
+    ("a Work alone", &[("0", "", 0, "\r\n\r\n")], 202),
     (
         "65,536 bytes of content",
-        &[
-            ("8000\r\n", 32_768, "\r\n"),
-            ("8000\r\n", 32_768, "\r\n"),
-            ("0", 0, "\r\n\r\n"),
-        ],
-        500,
+        &[("fcef\r\n", " ", 64_751, "\r\n"), ("0", "", 0, "\r\n\r\n")],
+        202,
     ),
     (
         "one more",
-        &[
-            ("8000\r\n", 32_768, "\r\n"),
-            ("8001\r\n", 32_769, "\r\n"),
-            ("0", 0, "\r\n\r\n"),
-        ],
+        &[("fcf0\r\n", " ", 64_752, "\r\n"), ("0", "", 0, "\r\n\r\n")],
         413,
     ),
-    // the chunk before it has 6 bytes, and 6 stand beside those of the last line
+    // 6 bytes stand beside those of the last line
     (
         "131,072 bytes in all",
-        &[("1\r\n", 1, "\r\n"), ("0;", 131_060, "\r\n\r\n")],
-        500,
+        &[("0;", "a", 130_274, "\r\n\r\n")],
+        202,
     ),
-    (
-        "one more in all",
-        &[("1\r\n", 1, "\r\n"), ("0;", 131_061, "\r\n\r\n")],
-        413,
-    ),
+    ("one more in all", &[("0;", "a", 130_275, "\r\n\r\n")], 413),
     (
         "a chunk that is shorter than its line says",
-        &[("2\r\n", 1, "\r\n"), ("0", 0, "\r\n\r\n")],
+        &[("2\r\n", " ", 1, "\r\n"), ("0", "", 0, "\r\n\r\n")],
+        400,
+    ),
+    (
+        "a chunk that isn't there",
+        &[("1\r\n", " ", 1, "\r\n")],
         400,
     ),
 ];
@@ -262,28 +286,26 @@ const CHUNKS: &[(&str, &[Chunk], u16)] = &[
 fn chunks_have_their_limits(rt: HostRuntime) -> Result<(), Fail> {
     for (name, chunks, status) in CHUNKS {
         let found = answer_to_chunks(rt.alloc(), chunks)?;
-        assert!(rt; found == (*status, true), "{name}: {found:?}");
+        assert!(rt; found == (*status, *status != 202), "{name}: {found:?}");
     }
     Ok(())
 }
 
-/// What a node answers to a head of so many bytes behind the 65 that it has else.
+/// What a node answers to a Work whose head has so many bytes more than 67.
 fn head(alloc: Global, more: u32) -> Result<(u16, bool), AllocError> {
-    let mut all = String::from_str(
-        alloc,
-        "POST /work HTTP/1.1\r\nHost: n1.example\r\nContent-Length: 0\r\nF: ",
-    )?;
+    let mut all = String::from_str(alloc, OPEN)?;
     push_times(&mut all, "f", more)?;
     all.push_str("\r\n\r\n")?;
+    push_work(&mut all)?;
     answer(alloc, all.as_bytes())
 }
 
 #[test]
 fn a_head_has_8192_bytes(rt: HostRuntime) -> Result<(), Fail> {
-    let within = head(rt.alloc(), 8_127)?;
-    let past = head(rt.alloc(), 8_128)?;
+    let within = head(rt.alloc(), 8_125)?;
+    let past = head(rt.alloc(), 8_126)?;
     assert!(rt;
-        within == (500, true) && past == (400, true),
+        within == (202, false) && past == (400, true),
         "{within:?} {past:?}"
     );
     Ok(())

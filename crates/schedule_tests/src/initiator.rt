@@ -26,6 +26,10 @@ const ROWS: &[(&[u8], u32, u8)] = &[
     (b"wait 1", 1, 2),
     (b"begin http://h", 1, 2),
     (b"commit 1", 1, 3),
+    (b"commit 1 anyway", 1, 3),
+    (b"begin http://h 0\ncommit 1 now", 2, 5),
+    (b"begin http://h 0\ncommit 1 anyway ", 2, 2),
+    (b"begin http://h 0\ncommit 1 anyway\n", 0, 0),
     (b"begin ftp://h 0", 1, 5),
     (b"wait\t", 1, 9),
     (b"wait\r\n", 1, 9),
@@ -146,7 +150,10 @@ fn each_line(alloc: Global) -> Result<Vec<InitiatorLine>, AllocError> {
         key: Text::copied(alloc, "key")?,
         value: Text::copied(alloc, "value")?,
     })?;
-    lines.push(InitiatorLine::Commit { activity: 1 })?;
+    lines.push(InitiatorLine::Commit {
+        activity: 1,
+        anyway: false,
+    })?;
     lines.push(InitiatorLine::Rollback { activity: 2 })?;
     lines.push(InitiatorLine::Wait)?;
     Ok(lines)

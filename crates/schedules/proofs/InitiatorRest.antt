@@ -36,6 +36,6 @@ pub one_more : (made : ℕ) (line : InitiatorLine) → made_by made line ≤ mad
 one_more made (lines.Begin url ms) = omega arith
 one_more made (lines.Interpose a url) = omega arith
 one_more made (lines.Work a url k v key value) = omega arith
-one_more made (lines.Commit a) = omega arith
+one_more made (lines.Commit a anyway) = omega arith
 one_more made (lines.Rollback a) = omega arith
 one_more made lines.Wait = omega arith

@@ -1,5 +1,5 @@
 -- What is written of an initiator's lines is read as them.
-use Rattle.std.proofs.Common.{ℕ, List, [], ◌∷◌, ◌++◌, ◌≡◌, ◌⊎◌, inl, inr, ◌<◌, ◌+◌, ◌^◌, ◌&&◌, true, Ok, sym, ◌∙◌, ap, arith, refl, length, map}
+use Rattle.std.proofs.Common.{ℕ, List, [], ◌∷◌, ◌++◌, ◌≡◌, ◌⊎◌, inl, inr, ◌<◌, ◌+◌, ◌^◌, ◌&&◌, true, false, Ok, sym, ◌∙◌, ap, arith, refl, length, map}
 use Rattle.std.specs.Fmt.{decimal}
 use Rattle.std.specs.List.{AllByRecursion, join_with_byte, list_all}
 use Rattle.schedules.specs.declared.initiator_line.InitiatorLine.{InitiatorLine}
@@ -44,7 +44,10 @@ asked_back made (lines.Work a url k v key value) few (h, (seen, fits), (key_seen
       read = then_ (number_in 1 made (decimal a)) _ a _ p.0 (then_ (kind_in (kind_letter k)) _ k _ (kind_there k) (then_ (vote_in (vote_name v)) _ v _ (vote_there v)
           (then_ (allowed (is_content key && is_content value && is_base url)) _ tt _ (ap allowed all) refl)));
     }
-asked_back made (lines.Commit a) few h =
+asked_back made (lines.Commit a false) few h =
+    let p = made_back made a few h in
+    record { visible = rw p.1 refl; read = then_ (number_in 1 made (decimal a)) _ a _ p.0 refl }
+asked_back made (lines.Commit a true) few h =
     let p = made_back made a few h in
     record { visible = rw p.1 refl; read = then_ (number_in 1 made (decimal a)) _ a _ p.0 refl }
 asked_back made (lines.Rollback a) few h =
@@ -63,7 +66,8 @@ has_words : (l : InitiatorLine) → HasWords l
 has_words (lines.Begin url ms) = record { word = _; more = _; are = refl; kept = refl }
 has_words (lines.Interpose a url) = record { word = _; more = _; are = refl; kept = refl }
 has_words (lines.Work a url k v key value) = record { word = _; more = _; are = refl; kept = refl }
-has_words (lines.Commit a) = record { word = _; more = _; are = refl; kept = refl }
+has_words (lines.Commit a false) = record { word = _; more = _; are = refl; kept = refl }
+has_words (lines.Commit a true) = record { word = _; more = _; are = refl; kept = refl }
 has_words (lines.Rollback a) = record { word = _; more = _; are = refl; kept = refl }
 has_words lines.Wait = record { word = _; more = _; are = refl; kept = refl }
 

@@ -1,8 +1,9 @@
 -- A text that is read is what is written of its lines, and these are an initiator's.
-use Rattle.std.proofs.Common.{ℕ, ◌==◌, List, [], ◌∷◌, ◌++◌, ◌≡◌, ◌⊎◌, inl, inr, ◌+◌, ◌&&◌, not, Bool, true, false, cond, Result, Ok, Err, IfOk, sym, ◌∙◌, ap, arith, refl, subst, codes, map}
+use Rattle.std.proofs.Common.{ℕ, ◌==◌, List, [], ◌∷◌, ◌++◌, ◌≡◌, ◌⊎◌, inl, inr, ◌+◌, ◌&&◌, not, Bool, true, false, cond, Result, Ok, Err, IfOk, sym, ◌∙◌, ap, arith, refl, subst, bytes_eq, codes, map}
 use Rattle.std.specs.List.{join_with_byte, list_all, onto_first, slice_split}
 use Rattle.std.proofs.lemmas.List.Splits.{join_with_byte-slice_split}
 use Rattle.std.proofs.lemmas.Bool.Decides.{nat_tests}
+use Rattle.std.proofs.lemmas.Slice.Eq.{bytes_eq-Decides}
 use Rattle.at_base.specs.declared.notice.Kind.{Kind}
 use Rattle.at_base.specs.declared.notice.Vote.{Vote}
 use Rattle.schedules.specs.declared.initiator_line.InitiatorLine.{InitiatorLine}
@@ -128,8 +129,14 @@ commit_read made (a ∷ []) l e =
     let b = bound (number_in 1 made a) _ l e in
     let k = number 1 made a b.value b.read in
     subst (IsRead made (codes "commit") (a ∷ [])) (same _ l b.rest) (record { next = (k.0, k.1); text = λ j. codes "commit" ∷ k.2 j ∷ [] })
+commit_read made (a ∷ word ∷ []) l e =
+    let b = bound (number_in 1 made a) _ l e in
+    let d = bound (allowed (bytes_eq word (codes "anyway"))) _ l b.rest in
+    let k = number 1 made a b.value b.read in
+    let w = (bytes_eq-Decides word (codes "anyway")).0 (is_allowed (bytes_eq word (codes "anyway")) d.value d.read) in
+    subst (IsRead made (codes "commit") (a ∷ word ∷ [])) (same _ l d.rest) (record { next = (k.0, k.1); text = λ j. codes "commit" ∷ k.2 j ∷ w j ∷ [] })
 commit_read made [] l e = absurd cc
-commit_read made (a ∷ x ∷ more) l e = absurd cc
+commit_read made (a ∷ word ∷ x ∷ more) l e = absurd cc
 
 rollback_read : (made : ℕ) (ws : List (List ℕ)) (l : InitiatorLine) → rollback_line made ws ≡ Ok l → IsRead made (codes "rollback") ws l
 rollback_read made (a ∷ []) l e =

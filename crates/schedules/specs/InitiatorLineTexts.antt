@@ -1,5 +1,5 @@
 -- How the lines of an initiator are written, and which lists of lines are an initiator's.
-use Rattle.std.specs.Prelude.{ℕ, List, [], ◌∷◌, ◌++◌, ◌≡◌, ◌≤◌, Bool, true, ◌&&◌, nat_le, codes, decimal, flat_map}
+use Rattle.std.specs.Prelude.{ℕ, List, [], ◌∷◌, ◌++◌, ◌≡◌, ◌≤◌, Bool, true, false, ◌&&◌, nat_le, codes, decimal, flat_map}
 use Rattle.std.specs.List.{join_with_byte, list_all}
 use Rattle.schedules.specs.declared.initiator_line.InitiatorLine.{InitiatorLine}
 use Rattle.schedules.specs.declared.initiator_line.InitiatorLine.TheVariants as lines
@@ -12,7 +12,8 @@ words_in (lines.Begin url ms) = codes "begin" ∷ url ∷ decimal ms ∷ []
 words_in (lines.Interpose a url) = codes "interpose" ∷ decimal a ∷ url ∷ []
 words_in (lines.Work a url kind vote key value) =
     codes "work" ∷ decimal a ∷ url ∷ kind_letter kind ∷ vote_name vote ∷ key ∷ value ∷ []
-words_in (lines.Commit a) = codes "commit" ∷ decimal a ∷ []
+words_in (lines.Commit a false) = codes "commit" ∷ decimal a ∷ []
+words_in (lines.Commit a true) = codes "commit" ∷ decimal a ∷ codes "anyway" ∷ []
 words_in (lines.Rollback a) = codes "rollback" ∷ decimal a ∷ []
 words_in lines.Wait = codes "wait" ∷ []
 
@@ -45,7 +46,7 @@ abbrev pub IsAsked : ℕ → InitiatorLine → Type 0
 IsAsked made (lines.Begin url ms) = IsBase url × (ms ≤ largest)
 IsAsked made (lines.Interpose a url) = IsMade made a × IsBase url
 IsAsked made (lines.Work a url kind vote key value) = IsMade made a × IsBase url × IsContent key × IsContent value
-IsAsked made (lines.Commit a) = IsMade made a
+IsAsked made (lines.Commit a anyway) = IsMade made a
 IsAsked made (lines.Rollback a) = IsMade made a
 IsAsked made lines.Wait = Unit {0}
 

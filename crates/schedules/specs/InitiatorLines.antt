@@ -72,7 +72,11 @@ work_line made _ = Err causes.WordCount
 abbrev pub commit_line : ℕ → List (List ℕ) → Result InitiatorLine Cause
 commit_line made (a ∷ []) = do
   activity ← number_in 1 made a
-  Ok (lines.Commit activity)
+  Ok (lines.Commit activity false)
+commit_line made (a ∷ word ∷ []) = do
+  activity ← number_in 1 made a
+  said ← allowed (bytes_eq word (codes "anyway"))
+  Ok (lines.Commit activity true)
 commit_line made _ = Err causes.WordCount
 
 abbrev pub rollback_line : ℕ → List (List ℕ) → Result InitiatorLine Cause

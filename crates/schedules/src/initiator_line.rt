@@ -33,15 +33,16 @@ pub enum InitiatorLine {
         key: Text,
         value: Text,
     },
-    /// `commit ACTIVITY`
+    /// `commit ACTIVITY`, or `commit ACTIVITY anyway`, whatever work in it was refused.
     Commit {
         activity: u32,
+        anyway: bool,
     },
     /// `rollback ACTIVITY`
     Rollback {
         activity: u32,
     },
-    /// `wait`: serves one connection.
+    /// `wait`: serves connections until one brings a message that the initiator takes.
     Wait,
 }
 
@@ -66,6 +67,7 @@ impl Drop for InitiatorLine {
             } => {}
             InitiatorLine::Commit {
                 activity: _activity,
+                anyway: _anyway,
             } => {}
             InitiatorLine::Rollback {
                 activity: _activity,

@@ -1,6 +1,6 @@
 //! The meaning of the words of an initiator's line, given how many activities the lines before it make.
 
-ghost use Rattle.std.specs.Prelude.{◌≡◌, ◌&&◌, IfOk, map, ◌<◌};
+ghost use Rattle.std.specs.Prelude.{◌≡◌, ◌∷◌, ◌&&◌, [], IfOk, map, ◌<◌};
 ghost use Rattle.schedules.specs.InitiatorLines.{Finds, allowed, asked, asked_words, begin_line, commit_line, interpose_line, is_base, is_content, is_plain_http, rollback_line, task, wait_line, work_line};
 ghost use Rattle.schedules.specs.Values.{kind_in, number_in, vote_in};
 ghost use Rattle.schedules.specs.declared.initiator_line.InitiatorLine.TheVariants.{Begin, Interpose, Work};
@@ -188,14 +188,31 @@ fn read_work(alloc: Global, made: u32, words: &[&str]) -> Result<InitiatorLine, 
     read_task(alloc, activity, url, kind, vote, key, value)
 }
 
+fn commits_anyway(made: u32, activity: &str, word: &str) -> Result<InitiatorLine, WordFault>
+    ensures { Finds (commit_line made (activity.now ∷ word.now ∷ [])) result }
+{
+    let activity = number(activity, 1, made)?;
+    allowed(word == "anyway")?;
+    Ok(InitiatorLine::Commit {
+        activity,
+        anyway: true,
+    })
+}
+
 fn read_commit(made: u32, words: &[&str]) -> Result<InitiatorLine, WordFault>
     ensures { Finds (commit_line made (map (λ w. w.now) words.now)) result }
 {
+    if let [activity, word] = words {
+        return commits_anyway(made, activity, word);
+    }
     let [activity] = words else {
         return Err(wrong(Cause::WordCount));
     };
     let activity = number(activity, 1, made)?;
-    Ok(InitiatorLine::Commit { activity })
+    Ok(InitiatorLine::Commit {
+        activity,
+        anyway: false,
+    })
 }
 
 fn read_rollback(made: u32, words: &[&str]) -> Result<InitiatorLine, WordFault>

@@ -1,6 +1,5 @@
 -- A node that serves attaches nothing.
-use Rattle.std.proofs.Common.{ℕ, List, Option, ◌≡◌, inl, inr, refl, ◌∙◌, ap, append-nil}
-use Rattle.at_base.specs.Numbers.{Numbers}
+use Rattle.std.proofs.Common.{ℕ, List, [], ◌∷◌, Option, ◌≡◌, inl, inr, refl, ◌∙◌, ap, append-nil}
 use Rattle.journal_at.specs.StandingBodies.{Counted}
 use Rattle.node_at.specs.Endings.{Ends}
 use Rattle.node_at.specs.State.{State}
@@ -9,7 +8,6 @@ use Rattle.node_at.specs.declared.role.Role.{Role}
 use Rattle.node_at.specs.declared.shrink.Shrunk.{Shrunk}
 use Rattle.node_at.specs.declared.turn.Turned.{Turned}
 use Rattle.node_at.specs.declared.turn.Turned.TheVariants as turneds
-use Rattle.schedules.specs.declared.initiator_line.InitiatorLine.{InitiatorLine}
 use Rattle.site_model.specs.Attachments.{Names}
 use Rattle.site_model.specs.Site.{Counts}
 use Rattle.site_model.specs.Told.{Told}
@@ -19,6 +17,7 @@ use Rattle.serving.specs.declared.service_end.Ended.{Ended}
 use Rattle.serving.specs.declared.request.Request.{Request}
 use Rattle.serving.specs.declared.request.Request.TheVariants as requests
 use Rattle.serving.specs.AttachedNames.{AttachesItsNames}
+use Rattle.serving.specs.Notes.{Item, Notes}
 use Rattle.serving.specs.Requests.{request_of}
 use Rattle.serving.specs.Runs.{Attends, Comes, Course, Does, Row, all_lines}
 
@@ -62,18 +61,18 @@ module _ {S : Type 0} (told : S → Told) where
       ends_same does.1.first turned does.0 does.1.node m does.1.behind t does.1.ends ∙ turn_same does.1.first role n does.1.node (told s) (told does.1.behind) does.1.steps
 
   module _ (role : Role) (n : State) (s : S) where
-    row_same : (front : List InitiatorLine) (made : List (Option Numbers)) (text : List ℕ) (m : State) (t : S) → Row told role n s front made text m t → attached_at t ≡ attached_at s
-    row_same front made text m t Row.none = refl
-    row_same front made text m t (Row.more {all = before} {made = those} {text = said} {m = k} {t = u} line answer node site row does is) =
-        does_same role (request_of those line) answer k node u site does ∙ row_same before those said k u row
+    row_same : (all rest : List Item) (notes : Notes) (text : List ℕ) (m : State) (t : S) → Row told role all n s rest notes text m t → attached_at t ≡ attached_at s
+    row_same all rest notes text m t Row.none = refl
+    row_same all rest notes text m t (Row.more {rest = those} {notes = before} {text = said} {m = k} {t = u} item answer node site row does is) =
+        does_same role (request_of before item) answer k node u site does ∙ row_same all (item ∷ those) before said k u row
 
-    attends_same : (all : List InitiatorLine) (new : S) (text : List ℕ) (ended : Option Ended) → Attends told role all n s new text ended → attached_at new ≡ attached_at s
-    attends_same all new text ended (Attends.some {m = m} {front = front} {made = made} {text = said} line rest row e) = row_same front made said m new row
-    attends_same all new text ended (Attends.whole {m = m} {made = made} {text = said} row) = row_same all made said m new row
-    attends_same all new text ended (Attends.last {m = m} {t = t} {front = front} {made = made} {text = said} {ended = how} line rest answer k row e does is) =
-        does_same role (request_of made line) answer m k t new does ∙ row_same front made said m t row
+    attends_same : (all : List Item) (new : S) (text : List ℕ) (ended : Option Ended) → Attends told role all n s new text ended → attached_at new ≡ attached_at s
+    attends_same all new text ended (Attends.some {m = m} {notes = notes} {text = said} item rest row) = row_same all (item ∷ rest) notes said m new row
+    attends_same all new text ended (Attends.whole {m = m} {notes = notes} {text = said} row) = row_same all [] notes said m new row
+    attends_same all new text ended (Attends.last {m = m} {t = t} {notes = notes} {text = said} {ended = how} item rest answer k row does is) =
+        does_same role (request_of notes item) answer m k t new does ∙ row_same all (item ∷ rest) notes said m t row
 
-    comes_same : (all : List InitiatorLine) (new : S) (text : List ℕ) (ended : Option Ended) → Comes told role all n s new text ended → attached_at new ≡ attached_at s
+    comes_same : (all : List Item) (new : S) (text : List ℕ) (ended : Option Ended) → Comes told role all n s new text ended → attached_at new ≡ attached_at s
     comes_same all new text ended (Comes.comes {text = said} {ended = how} attends) = attends_same all new said how attends
 
   pub attaches_its_names : AttachesItsNames told

@@ -1,6 +1,5 @@
 -- The lines and turns of a node that serves are calls in a row.
-use Rattle.std.proofs.Common.{ℕ, List, Bool, Option, Some, None, true, false, [], ◌++◌, ◌≡◌, if◌then◌else◌, refl, sym, ◌∙◌, ap, subst}
-use Rattle.at_base.specs.Numbers.{Numbers}
+use Rattle.std.proofs.Common.{ℕ, List, Bool, Option, Some, None, true, false, [], ◌∷◌, ◌++◌, ◌≡◌, if◌then◌else◌, refl, sym, ◌∙◌, ap, subst}
 use Rattle.node_at.specs.Endings.{Ends, TakesTurn}
 use Rattle.node_at.specs.State.{State}
 use Rattle.node_at.specs.Turns.{Turns}
@@ -11,7 +10,6 @@ use Rattle.node_at.specs.declared.turn.Turned.{Turned}
 use Rattle.node_at.specs.declared.turn.Turned.TheVariants as turneds
 use Rattle.node_worlds.specs.Acts.{Act, acts_for, acts_in}
 use Rattle.node_worlds.specs.Lives.{Lives, StepsArePrefixed}
-use Rattle.schedules.specs.declared.initiator_line.InitiatorLine.{InitiatorLine}
 use Rattle.site_model.specs.Told.{Told}
 use Rattle.serving.specs.declared.answer.Answer.{Answer}
 use Rattle.serving.specs.declared.answer.Answer.TheVariants as answers
@@ -19,6 +17,7 @@ use Rattle.serving.specs.declared.service_end.Ended.{Ended}
 use Rattle.serving.specs.declared.service_end.Ended.TheVariants as endings
 use Rattle.serving.specs.declared.request.Request.{Request}
 use Rattle.serving.specs.declared.request.Request.TheVariants as requests
+use Rattle.serving.specs.Notes.{Item, Notes, noted}
 use Rattle.serving.specs.Requests.{ended_by, request_of}
 use Rattle.serving.specs.Runs.{Attends, Comes, Does, Row, all_lines}
 use Rattle.serving.specs.Since.{ServesStepByStep}
@@ -59,19 +58,19 @@ module _ {S : Type 0} (told : S → Told) where
       (steps_run turn.first role n turn.node (told s) (told turn.behind) turn.steps (not_first turn.first turned shrunk turn.node m turn.behind t turn.ends runs) up)
 
   -- behind a line that serving doesn't end by a halt
-  line_runs : (role : Role) (r : Request) (answer : Answer) (n m : State) (s t : S) → Does told role r answer n m s t → (ended_by answer ≡ Some endings.Halted → ⊥) → n.halted ≡ false → m.halted ≡ false
-  line_runs role (requests.Local l) (answers.Local (locally.Done id)) n m s t does runs up = does.0.asked.3.3.went.runs
-  line_runs role (requests.Local l) (answers.Local (locally.Refused why)) n m s t does runs up = ap (λ (z : State). z.halted) does.0.asked.2 ∙ up
-  line_runs role (requests.Local l) (answers.Local locally.NoRoom) n m s t does runs up = ap (λ (z : State). z.halted) does.0.asked.2 ∙ up
-  line_runs role (requests.Local l) (answers.Local locally.Halted) n m s t does runs up = absurd (runs refl)
-  line_runs role (requests.Local l) answers.Stale n m s t does runs up = absurd does
-  line_runs role (requests.Local l) (answers.Turn turned) n m s t does runs up = absurd does
-  line_runs role requests.Stale (answers.Local answer) n m s t does runs up = absurd does
-  line_runs role requests.Stale answers.Stale n m s t does runs up = ap (λ (z : State). z.halted) does.0 ∙ up
-  line_runs role requests.Stale (answers.Turn turned) n m s t does runs up = absurd does
-  line_runs role requests.Wait (answers.Local answer) n m s t does runs up = absurd does
-  line_runs role requests.Wait answers.Stale n m s t does runs up = absurd does
-  line_runs role requests.Wait (answers.Turn turned) n m s t does runs up = turn_runs turned role does.0 n m s t does.1 (λ e. runs (ap (λ z. ended_by (answers.Turn z)) e)) up
+  line_runs : (role : Role) (r : Request) (met : Bool) (answer : Answer) (n m : State) (s t : S) → Does told role r answer n m s t → (ended_by met answer ≡ Some endings.Halted → ⊥) → n.halted ≡ false → m.halted ≡ false
+  line_runs role (requests.Local l) met (answers.Local (locally.Done id)) n m s t does runs up = does.0.asked.3.3.went.runs
+  line_runs role (requests.Local l) met (answers.Local (locally.Refused why)) n m s t does runs up = ap (λ (z : State). z.halted) does.0.asked.2 ∙ up
+  line_runs role (requests.Local l) met (answers.Local locally.NoRoom) n m s t does runs up = ap (λ (z : State). z.halted) does.0.asked.2 ∙ up
+  line_runs role (requests.Local l) met (answers.Local locally.Halted) n m s t does runs up = absurd (runs refl)
+  line_runs role (requests.Local l) met answers.Stale n m s t does runs up = absurd does
+  line_runs role (requests.Local l) met (answers.Turn turned) n m s t does runs up = absurd does
+  line_runs role requests.Stale met (answers.Local answer) n m s t does runs up = absurd does
+  line_runs role requests.Stale met answers.Stale n m s t does runs up = ap (λ (z : State). z.halted) does.0 ∙ up
+  line_runs role requests.Stale met (answers.Turn turned) n m s t does runs up = absurd does
+  line_runs role requests.Wait met (answers.Local answer) n m s t does runs up = absurd does
+  line_runs role requests.Wait met answers.Stale n m s t does runs up = absurd does
+  line_runs role requests.Wait met (answers.Turn turned) n m s t does runs up = turn_runs turned role does.0 n m s t does.1 (λ e. runs (ap (λ z. ended_by met (answers.Turn z)) e)) up
 
   -- what calls in a row did
   abbrev Lived : State → S → State → S → Type 0
@@ -91,25 +90,26 @@ module _ {S : Type 0} (told : S → Told) where
       (lived.0 ++ acts_in does.1.first role k does.1.node (told t) (told does.1.behind) does.1.steps, Lives.turned lived.0 k t turned role does.0 lived.1 runs does.1 refl)
 
   module _ (role : Role) (n : State) (s : S) (up : n.halted ≡ false) where
-    row_lives : (front : List InitiatorLine) (made : List (Option Numbers)) (text : List ℕ) (m : State) (t : S) → Row told role n s front made text m t → Lived n s m t × (m.halted ≡ false)
-    row_lives front made text m t Row.none = (([], Lives.begins refl refl refl), up)
-    row_lives front made text m t (Row.more {all = before} {made = those} {text = said} {m = k} {t = u} line answer node site row does is) =
-        let (lived, runs) = row_lives before those said k u row in (
-          line_lives role (request_of those line) answer n k node s u site lived runs does,
-          line_runs role (request_of those line) answer k node u site does (none_ended (ended_by answer) endings.Halted is) runs,
+    row_lives : (all rest : List Item) (notes : Notes) (text : List ℕ) (m : State) (t : S) → Row told role all n s rest notes text m t → Lived n s m t × (m.halted ≡ false)
+    row_lives all rest notes text m t Row.none = (([], Lives.begins refl refl refl), up)
+    row_lives all rest notes text m t (Row.more {rest = those} {notes = before} {text = said} {m = k} {t = u} item answer node site row does is) =
+        let (lived, runs) = row_lives all (item ∷ those) before said k u row in (
+          line_lives role (request_of before item) answer n k node s u site lived runs does,
+          line_runs role (request_of before item) (noted before item answer node.effects).met answer k node u site does
+              (none_ended (ended_by (noted before item answer node.effects).met answer) endings.Halted is) runs,
         )
 
-    attends_lives : (all : List InitiatorLine) (new : S) (text : List ℕ) (ended : Option Ended) → Attends told role all n s new text ended
+    attends_lives : (all : List Item) (new : S) (text : List ℕ) (ended : Option Ended) → Attends told role all n s new text ended
         → (m : State) × Lived n s m new × ((ended ≡ Some endings.Halted → ⊥) → m.halted ≡ false)
-    attends_lives all new text ended (Attends.some {m = m} {front = front} {made = made} {text = said} line rest row e) =
-        let (lived, runs) = row_lives front made said m new row in (m, lived, λ no_halt. runs)
-    attends_lives all new text ended (Attends.whole {m = m} {made = made} {text = said} row) =
-        let (lived, runs) = row_lives all made said m new row in (m, lived, λ no_halt. runs)
-    attends_lives all new text ended (Attends.last {m = m} {t = t} {front = front} {made = made} {text = said} {ended = how} line rest answer k row e does is) =
-        let (lived, runs) = row_lives front made said m t row in (
+    attends_lives all new text ended (Attends.some {m = m} {notes = notes} {text = said} item rest row) =
+        let (lived, runs) = row_lives all (item ∷ rest) notes said m new row in (m, lived, λ no_halt. runs)
+    attends_lives all new text ended (Attends.whole {m = m} {notes = notes} {text = said} row) =
+        let (lived, runs) = row_lives all [] notes said m new row in (m, lived, λ no_halt. runs)
+    attends_lives all new text ended (Attends.last {m = m} {t = t} {notes = notes} {text = said} {ended = how} item rest answer k row does is) =
+        let (lived, runs) = row_lives all (item ∷ rest) notes said m t row in (
           k,
-          line_lives role (request_of made line) answer n m k s t new lived runs does,
-          λ no_halt. line_runs role (request_of made line) answer m k t new does (λ h. no_halt (sym is ∙ h)) runs,
+          line_lives role (request_of notes item) answer n m k s t new lived runs does,
+          λ no_halt. line_runs role (request_of notes item) (noted notes item answer k.effects).met answer m k t new does (λ h. no_halt (sym is ∙ h)) runs,
         )
 
   pub serves_step_by_step : StepsArePrefixed told → ServesStepByStep told

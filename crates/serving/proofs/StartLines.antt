@@ -1,5 +1,5 @@
 -- What is printed before the lines, and where there are none.
-use Rattle.std.proofs.Common.{ℕ, List, [], ◌∷◌, ◌++◌, ◌≡◌, ◌≤◌, ◌<◌, ◌⊎◌, ◌+◌, take, length, Option, Some, None, Ok, Err, Result, inl, inr, sym, ◌∙◌, subst, arith, refl}
+use Rattle.std.proofs.Common.{ℕ, List, [], ◌∷◌, ◌++◌, ◌≡◌, ◌≤◌, ◌<◌, ◌⊎◌, ◌+◌, take, length, Option, Some, None, Ok, Err, Result, inl, inr, sym, ◌∙◌, subst, arith}
 use Rattle.std.specs.Io.KnownBytes.{Appends}
 use Rattle.node_at.specs.StartedNodes.{IsStarted}
 use Rattle.node_at.specs.Starts.{CannotStart}
@@ -8,12 +8,12 @@ use Rattle.node_at.specs.declared.node.Node.{Node}
 use Rattle.node_at.specs.declared.fault.StartFault.{StartFault}
 use Rattle.node_at.specs.declared.fault.StartFault.TheVariants as faults
 use Rattle.node_at.specs.declared.role.Role.{Role}
-use Rattle.schedules.specs.declared.initiator_line.InitiatorLine.{InitiatorLine}
 use Rattle.site_model.specs.Calls.{Attaches}
 use Rattle.site_model.specs.Told.{Told}
 use Rattle.site_model.specs.declared.site.AttachFailed.{AttachFailed}
 use Rattle.site_model.specs.declared.site.AttachFailed.TheVariants as attaching
 use Rattle.serving.specs.Lines.{fault_text, up_line}
+use Rattle.serving.specs.Notes.{Item}
 use Rattle.serving.specs.Runs.{Attends, Comes, Course, IsCut, IsOpen, IsTold, IsUp, IsWanting, Prints, Row, Serviced, all_lines, attach_ended, start_ended}
 use Rattle.serving.specs.Sessions.{Cut, Tells}
 use Rattle.serving.specs.declared.service_end.Ended.{Ended}
@@ -37,7 +37,7 @@ told_partly said text ended result x y e f h = inr (inr (f, partly said text x y
 
 -- a node that is up
 
-module _ {S : Type 0} (told : S → Told) (role : Role) (all : List InitiatorLine) (n : State) (s u : S) where
+module _ {S : Type 0} (told : S → Told) (role : Role) (all : List Item) (n : State) (s u : S) where
   abbrev Attending : List ℕ → Option Ended → Type 0
   Attending = Attends told role all n s u
 
@@ -77,17 +77,18 @@ module _ {S : Type 0} (told : S → Told) (role : Role) (all : List InitiatorLin
   comes_by endings.NoMemory x y z h p = wants x y z h p
   comes_by endings.Spent x y z h p = whole endings.Spent x y z h p
   comes_by endings.Full x y z h p = whole endings.Full x y z h p
+  comes_by endings.Unmet x y z h p = whole endings.Unmet x y z h p
 
   pub comes : (said : List ℕ) (e : Ended) (x y z : Option (List ℕ)) → said ≡ up → Appends x y said → Prints Attending e y z → Prints Coming e x z
   comes said e x y z f h p = comes_by e x y z (wholly said up x y f h) p
 
 -- nothing was done yet
-abbrev begun : {S : Type 0} (told : S → Told) (role : Role) (all : List InitiatorLine) (n : State) (s : S) → (ended : Option Ended) × Attends told role all n s s [] ended
+abbrev begun : {S : Type 0} (told : S → Told) (role : Role) (all : List Item) (n : State) (s : S) → (ended : Option Ended) × Attends told role all n s s [] ended
 begun told role [] n s = (Some endings.Done, Attends.whole Row.none)
-begun told role (line ∷ rest) n s = (None, Attends.some line rest Row.none refl)
+begun told role (item ∷ rest) n s = (None, Attends.some item rest Row.none)
 
 -- that it is up was printed in part
-module _ {S : Type 0} (told : S → Told) (role : Role) (all : List InitiatorLine) (n : State) (s : S) where
+module _ {S : Type 0} (told : S → Told) (role : Role) (all : List Item) (n : State) (s : S) where
   pub comes_partly : (said : List ℕ) (x y : Option (List ℕ)) → said ≡ up_line n.book.incarnation → (count : ℕ) × ((count ≤ length said) × Appends x y (take count said))
       → IsCut (Comes told role all n s s) x y
   comes_partly said x y e (count, (within, printed)) = record {
@@ -174,6 +175,7 @@ module _ {S : Type 0} (told : S → Told) (v : Serviced) (old new : S) where
     came_as endings.NoMemory x y c = record { cut = came_cut x y c.cut; wanting = c.wanting }
     came_as endings.Spent x y c = came_told endings.Spent x y c
     came_as endings.Full x y c = came_told endings.Full x y c
+    came_as endings.Unmet x y c = came_told endings.Unmet x y c
 
     pub came_up : (e : Ended) (x y : Option (List ℕ)) → Prints (Comes told role (all_lines v) n s new) e x y → Prints Courses e x y
     came_up e x y c = came_as e x y (subst (λ z. Prints (Comes told z (all_lines v) n s new) e x y) same c)

@@ -1,5 +1,6 @@
 pub mod AttachedNames
 pub mod Lines
+pub mod Notes
 pub mod Requests
 pub mod Runs
 pub mod Services

@@ -1,5 +1,5 @@
 -- What a line of an initiator asks, and what is printed of the answer.
-use Rattle.std.specs.Prelude.{ℕ, List, [], ◌∷◌, Option, Some, None, codes}
+use Rattle.std.specs.Prelude.{ℕ, List, ◌&&◌, Bool, true, false, not, if◌then◌else◌, Option, Some, None, codes}
 use Rattle.at_base.specs.Numbers.{Numbers}
 use Rattle.at_base.specs.declared.event.Local.{Local}
 use Rattle.at_base.specs.declared.event.Local.TheVariants as locals
@@ -18,6 +18,7 @@ use Rattle.serving.specs.declared.answer.Answer.TheVariants as answers
 use Rattle.serving.specs.declared.service_end.Ended.{Ended}
 use Rattle.serving.specs.declared.service_end.Ended.TheVariants as endings
 use Rattle.serving.specs.Lines.{effect_lines, refused_line}
+use Rattle.serving.specs.Notes.{Item, Notes, is_unmet}
 
 abbrev pub joined : Option (Option Numbers) → Option Numbers
 joined None = None
@@ -32,24 +33,25 @@ abbrev pub of_activity : (Numbers → Local) → Option Numbers → Request
 of_activity ask None = requests.Stale
 of_activity ask (Some id) = requests.Local (ask id)
 
-abbrev pub request_of : List (Option Numbers) → InitiatorLine → Request
-request_of made (lines.Begin coordinator ms) = requests.Local (locals.Begin coordinator ms)
-request_of made (lines.Interpose activity coordinator) = of_activity (λ id. locals.Interpose id coordinator) (activity_at activity made)
-request_of made (lines.Work activity service kind vote key value) = of_activity (λ id. locals.Work id service kind vote key value) (activity_at activity made)
-request_of made (lines.Commit activity) = of_activity (λ id. locals.Commit id) (activity_at activity made)
-request_of made (lines.Rollback activity) = of_activity (λ id. locals.Rollback id) (activity_at activity made)
-request_of made lines.Wait = requests.Wait
+-- the commit of an activity of which a work was refused is refused, unless it is asked for anyway
+abbrev pub commit_of : Bool → List (Option Numbers) → List ℕ → ℕ → Request
+commit_of anyway made unmet activity = if not anyway && is_unmet activity unmet then requests.Stale else of_activity (λ id. locals.Commit id) (activity_at activity made)
 
--- the id of the activity that was made
-abbrev pub made_by : Answer → Option Numbers
-made_by (answers.Local (locally.Done id)) = Some id
-made_by other = None
+abbrev pub line_request : List (Option Numbers) → List ℕ → InitiatorLine → Request
+line_request made unmet (lines.Begin coordinator ms) = requests.Local (locals.Begin coordinator ms)
+line_request made unmet (lines.Interpose activity coordinator) = of_activity (λ id. locals.Interpose id coordinator) (activity_at activity made)
+line_request made unmet (lines.Work activity service kind vote key value) = of_activity (λ id. locals.Work id service kind vote key value) (activity_at activity made)
+line_request made unmet (lines.Commit activity anyway) = commit_of anyway made unmet activity
+line_request made unmet (lines.Rollback activity) = of_activity (λ id. locals.Rollback id) (activity_at activity made)
+line_request made unmet lines.Wait = requests.Wait
 
--- what a line adds to the activities
-abbrev pub adds : InitiatorLine → Answer → List (Option Numbers)
-adds (lines.Begin coordinator ms) answer = made_by answer ∷ []
-adds (lines.Interpose activity coordinator) answer = made_by answer ∷ []
-adds other answer = []
+-- a turn is asked for as a `wait` asks for one
+abbrev pub item_request : List (Option Numbers) → List ℕ → Item → Request
+item_request made unmet (Some line) = line_request made unmet line
+item_request made unmet None = requests.Wait
+
+abbrev pub request_of : Notes → Item → Request
+request_of notes item = item_request notes.made notes.unmet item
 
 -- What is printed: why a request was refused, or what it or a turn brought about.
 abbrev pub printed : Answer → List Effect → List ℕ
@@ -60,16 +62,21 @@ printed (answers.Local locally.Halted) es = effect_lines es
 printed answers.Stale es = refused_line (codes "state")
 printed (answers.Turn turned) es = effect_lines es
 
+-- how it ends where all was done: whether no line was refused, and each activity that ended was committed
+abbrev pub done_by : Bool → Ended
+done_by true = endings.Done
+done_by false = endings.Unmet
+
 -- Whether serving ends behind that, and how. For a step of a turn there may be no memory: then its peer asks again.
-abbrev pub ended_by : Answer → Option Ended
-ended_by (answers.Local (locally.Done id)) = None
-ended_by (answers.Local (locally.Refused why)) = None
-ended_by (answers.Local locally.NoRoom) = Some endings.NoMemory
-ended_by (answers.Local locally.Halted) = Some endings.Halted
-ended_by answers.Stale = None
-ended_by (answers.Turn (turneds.Served status)) = None
-ended_by (answers.Turn turneds.Ticked) = None
-ended_by (answers.Turn turneds.NoRoom) = None
-ended_by (answers.Turn turneds.Closed) = Some endings.Done
-ended_by (answers.Turn turneds.Halted) = Some endings.Halted
-ended_by (answers.Turn turneds.LinkDown) = Some endings.ListenerFailed
+abbrev pub ended_by : Bool → Answer → Option Ended
+ended_by met (answers.Local (locally.Done id)) = None
+ended_by met (answers.Local (locally.Refused why)) = None
+ended_by met (answers.Local locally.NoRoom) = Some endings.NoMemory
+ended_by met (answers.Local locally.Halted) = Some endings.Halted
+ended_by met answers.Stale = None
+ended_by met (answers.Turn (turneds.Served status)) = None
+ended_by met (answers.Turn turneds.Ticked) = None
+ended_by met (answers.Turn turneds.NoRoom) = None
+ended_by met (answers.Turn turneds.Closed) = Some (done_by met)
+ended_by met (answers.Turn turneds.Halted) = Some endings.Halted
+ended_by met (answers.Turn turneds.LinkDown) = Some endings.ListenerFailed

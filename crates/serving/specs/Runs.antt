@@ -1,7 +1,6 @@
 -- A node that serves: its journal is opened and its listener, it comes up, and then it does line after line.
-use Rattle.std.specs.Prelude.{ℕ, List, [], ◌∷◌, ◌++◌, ◌≡◌, ◌≤◌, ◌<◌, ◌⊎◌, Option, Some, None, Ok, Err, length, replicate, take}
+use Rattle.std.specs.Prelude.{ℕ, List, [], ◌∷◌, ◌++◌, ◌≡◌, ◌≤◌, ◌<◌, ◌⊎◌, Option, Some, None, Ok, Err, length, map, replicate, take}
 use Rattle.std.specs.Io.KnownBytes.{Appends}
-use Rattle.at_base.specs.Numbers.{Numbers}
 use Rattle.node_at.specs.Endings.{TakesTurn}
 use Rattle.node_at.specs.StartedNodes.{IsStarted}
 use Rattle.node_at.specs.Starts.{CannotStart}
@@ -13,7 +12,6 @@ use Rattle.node_at.specs.declared.role.Role.{Role}
 use Rattle.node_at.specs.declared.shrink.Shrunk.{Shrunk}
 use Rattle.node_worlds.specs.Lives.{Requests}
 use Rattle.schedules.specs.declared.initiator_line.InitiatorLine.{InitiatorLine}
-use Rattle.schedules.specs.declared.initiator_line.InitiatorLine.TheVariants as lines
 use Rattle.site_model.specs.Calls.{Attaches}
 use Rattle.site_model.specs.Told.{Told}
 use Rattle.site_model.specs.declared.site.AttachFailed.{AttachFailed}
@@ -25,36 +23,36 @@ use Rattle.serving.specs.declared.service_end.Ended.TheVariants as endings
 use Rattle.serving.specs.declared.request.Request.{Request}
 use Rattle.serving.specs.declared.request.Request.TheVariants as requests
 use Rattle.serving.specs.Lines.{fault_text, up_line}
-use Rattle.serving.specs.Requests.{adds, ended_by, printed, request_of}
+use Rattle.serving.specs.Notes.{Item, Notes, left, no_notes, noted}
+use Rattle.serving.specs.Requests.{done_by, ended_by, printed, request_of}
 
 -- What a node does for a line: a step for a request, a turn for a `wait`. A line on an activity whose own line was refused
--- is refused, and nothing is done.
+-- is refused, and nothing is done; so is the commit of an activity of which a work was refused.
 abbrev pub Does : {S : Type 0} → (S → Told) → Role → Request → Answer → State → State → S → S → Type 0
 Does told role (requests.Local l) (answers.Local answer) n m s t = Requests told answer n m l s t × Keeping (told s) (told t)
 Does told role requests.Stale answers.Stale n m s t = (m ≡ n) × (t ≡ s)
 Does told role requests.Wait (answers.Turn turned) n m s t = (shrunk : Shrunk) × TakesTurn told turned role shrunk n m s t
 Does told role request answer n m s t = ⊥
 
--- A row of lines that were done one after the other, from this node and this machine on: the activities that they made, what
--- is printed of them, and the node and the machine behind them.
-pub data Row {S : Type 0} (told : S → Told) (role : Role) (n : State) (s : S) : List InitiatorLine → List (Option Numbers) → List ℕ → State → S → Type 0 where
-  none : Row told role n s [] [] [] n s
-  more : {all : List InitiatorLine} {made : List (Option Numbers)} {text : List ℕ} {m : State} {t : S} (line : InitiatorLine) (answer : Answer) (k : State) (u : S)
-      → Row told role n s all made text m t → Does told role (request_of made line) answer m k t u → ended_by answer ≡ None
-      → Row told role n s (all ++ line ∷ []) (made ++ adds line answer) (text ++ printed answer k.effects) k u
+-- A row of lines and turns that were done one after the other, from this node and this machine on: those that are left of all of
+-- them, what is noted, what is printed, and the node and the machine behind them.
+pub data Row {S : Type 0} (told : S → Told) (role : Role) (all : List Item) (n : State) (s : S) : List Item → Notes → List ℕ → State → S → Type 0 where
+  none : Row told role all n s all no_notes [] n s
+  more : {rest : List Item} {notes : Notes} {text : List ℕ} {m : State} {t : S} (item : Item) (answer : Answer) (k : State) (u : S)
+      → Row told role all n s (item ∷ rest) notes text m t → Does told role (request_of notes item) answer m k t u
+      → ended_by (noted notes item answer k.effects).met answer ≡ None
+      → Row told role all n s (left (noted notes item answer k.effects) item rest) (noted notes item answer k.effects) (text ++ printed answer k.effects) k u
 
--- How far a node that came up has come with its lines, what is printed of that, and how it ended, where it did.
-pub data Attends {S : Type 0} (told : S → Told) (role : Role) (all : List InitiatorLine) (n : State) (s new : S) : List ℕ → Option Ended → Type 0 where
+-- How far a node that came up has come with its lines and turns, what is printed of that, and how it ended, where it did.
+pub data Attends {S : Type 0} (told : S → Told) (role : Role) (all : List Item) (n : State) (s new : S) : List ℕ → Option Ended → Type 0 where
   -- it did some of them, but not all
-  some : {m : State} {front : List InitiatorLine} {made : List (Option Numbers)} {text : List ℕ} (line : InitiatorLine) (rest : List InitiatorLine)
-      → Row told role n s front made text m new → front ++ line ∷ rest ≡ all → Attends told role all n s new text None
+  some : {m : State} {notes : Notes} {text : List ℕ} (item : Item) (rest : List Item) → Row told role all n s (item ∷ rest) notes text m new → Attends told role all n s new text None
   -- it did them all
-  whole : {m : State} {made : List (Option Numbers)} {text : List ℕ} → Row told role n s all made text m new → Attends told role all n s new text (Some endings.Done)
+  whole : {m : State} {notes : Notes} {text : List ℕ} → Row told role all n s [] notes text m new → Attends told role all n s new text (Some (done_by notes.met))
   -- it came to an end with one of them
-  last : {m : State} {t : S} {front : List InitiatorLine} {made : List (Option Numbers)} {text : List ℕ} {ended : Ended}
-      (line : InitiatorLine) (rest : List InitiatorLine) (answer : Answer) (k : State)
-      → Row told role n s front made text m t → front ++ line ∷ rest ≡ all → Does told role (request_of made line) answer m k t new → ended_by answer ≡ Some ended
-      → Attends told role all n s new (text ++ printed answer k.effects) (Some ended)
+  last : {m : State} {t : S} {notes : Notes} {text : List ℕ} {ended : Ended} (item : Item) (rest : List Item) (answer : Answer) (k : State)
+      → Row told role all n s (item ∷ rest) notes text m t → Does told role (request_of notes item) answer m k t new
+      → ended_by (noted notes item answer k.effects).met answer ≡ Some ended → Attends told role all n s new (text ++ printed answer k.effects) (Some ended)
 
 -- What is to be served: at this base, with a journal of this name and a listener at this address, with at most so many bytes a file, with
 -- these lines before so many turns.
@@ -67,9 +65,12 @@ pub record Serviced : Type 0 where
   pub lines : List InitiatorLine
   pub turns : ℕ
 
--- a turn is one more `wait`
-abbrev pub all_lines : Serviced → List InitiatorLine
-all_lines v = v.lines ++ replicate v.turns lines.Wait
+-- the lines, and then so many turns
+abbrev pub all_items : List InitiatorLine → ℕ → List Item
+all_items ls turns = map Some ls ++ replicate turns None
+
+abbrev pub all_lines : Serviced → List Item
+all_lines v = all_items v.lines v.turns
 
 -- the node came up, on a machine whose files and listener were opened, by the names of what is to be served
 pub record IsUp {S : Type 0} (told : S → Told) (v : Serviced) (n : State) (old new : S) : Type 0 where
@@ -89,7 +90,7 @@ start_ended faults.Spent = endings.Spent
 start_ended faults.Full = endings.Full
 
 -- the node says that it is up, before all else
-pub data Comes {S : Type 0} (told : S → Told) (role : Role) (all : List InitiatorLine) (n : State) (s new : S) : List ℕ → Option Ended → Type 0 where
+pub data Comes {S : Type 0} (told : S → Told) (role : Role) (all : List Item) (n : State) (s new : S) : List ℕ → Option Ended → Type 0 where
   comes : {text : List ℕ} {ended : Option Ended} → Attends told role all n s new text ended → Comes told role all n s new (up_line n.book.incarnation ++ text) ended
 
 -- How far serving has come, what is printed of that, and how it ended, where it did.
@@ -143,6 +144,7 @@ Prints P endings.BadJournal before after = IsTold P endings.BadJournal before af
 Prints P endings.ListenerFailed before after = IsTold P endings.ListenerFailed before after
 Prints P endings.Spent before after = IsTold P endings.Spent before after
 Prints P endings.Full before after = IsTold P endings.Full before after
+Prints P endings.Unmet before after = IsTold P endings.Unmet before after
 
 -- How serving ended, and what was printed.
 abbrev pub Serves : {S : Type 0} → (S → Told) → Serviced → Ended → Option (List ℕ) → Option (List ℕ) → S → S → Type 0

@@ -1,36 +1,29 @@
--- One line of a session, in the code's words.
-use Rattle.std.specs.Prelude.{ℕ, List, [], ◌∷◌, ◌++◌, ◌≡◌, ◌≤◌, ◌<◌, ◌⊎◌, Bool, true, false, Option, Some, None, length, take, zero, suc}
+-- One line or turn of a session, in the code's words.
+use Rattle.std.specs.Prelude.{ℕ, List, ◌≡◌, ◌≤◌, ◌<◌, ◌⊎◌, ◌+◌, Bool, Option, Some, None, length, take}
 use Rattle.std.specs.Io.KnownBytes.{Appends}
 use Rattle.at_base.specs.Numbers.{Numbers}
 use Rattle.node_at.specs.State.{State}
 use Rattle.node_at.specs.declared.role.Role.{Role}
-use Rattle.schedules.specs.declared.initiator_line.InitiatorLine.{InitiatorLine}
 use Rattle.schedules.specs.declared.initiator_line.InitiatorLine.TheVariants as lines
 use Rattle.site_model.specs.Told.{Told}
 use Rattle.serving.specs.declared.answer.Answer.{Answer}
 use Rattle.serving.specs.declared.service_end.Ended.{Ended}
 use Rattle.serving.specs.declared.service_end.Ended.TheVariants as endings
-use Rattle.serving.specs.Requests.{adds, ended_by, made_by, printed, request_of}
+use Rattle.serving.specs.declared.session.Session.{Session}
+use Rattle.serving.specs.Notes.{Item, Notes, noted}
+use Rattle.serving.specs.Requests.{ended_by, printed, request_of}
 use Rattle.serving.specs.Runs.{Does}
 
--- the line of this place, from 0 on; behind the last there are turns
-abbrev pub line_at : ℕ → List InitiatorLine → InitiatorLine
-line_at place [] = lines.Wait
-line_at zero (line ∷ rest) = line
-line_at (suc place) (line ∷ rest) = line_at place rest
+-- what a session has noted
+abbrev pub notes_of : Session → Notes
+notes_of s = record { made = s.made.items; unmet = s.unmet.items; met = s.met; waited = s.waited }
 
--- whether it makes an activity
-abbrev pub makes : InitiatorLine → Bool
-makes (lines.Begin coordinator ms) = true
-makes (lines.Interpose activity coordinator) = true
-makes (lines.Work activity service kind vote key value) = false
-makes (lines.Commit activity) = false
-makes (lines.Rollback activity) = false
-makes lines.Wait = false
-
-abbrev pub added : Bool → Answer → List (Option Numbers)
-added true answer = made_by answer ∷ []
-added false answer = []
+-- there is room for what an item adds: behind these activities, of which so many fit, and behind those of which a work was refused
+abbrev pub HasRoom : Item → List (Option Numbers) → ℕ → List ℕ → ℕ → Type 0
+HasRoom (Some (lines.Begin coordinator ms)) made most unmet most_unmet = length made + 1 ≤ most
+HasRoom (Some (lines.Interpose activity coordinator)) made most unmet most_unmet = length made + 1 ≤ most
+HasRoom (Some (lines.Work activity service kind vote key value)) made most unmet most_unmet = length unmet + 1 ≤ most_unmet
+HasRoom other made most unmet most_unmet = Unit {0}
 
 -- a beginning of a text was printed
 abbrev pub Cut : List ℕ → Option (List ℕ) → Option (List ℕ) → Type 0
@@ -41,28 +34,29 @@ abbrev pub Short : List ℕ → Option (List ℕ) → Option (List ℕ) → Type
 Short text before after = (count : ℕ) × ((count < length text) × Appends before after (take count text))
 
 -- it was printed, and this is how it ends behind it
-abbrev pub Whole : Answer → Option Ended → List ℕ → Option (List ℕ) → Option (List ℕ) → Type 0
-Whole answer ended text before after = (ended_by answer ≡ ended) × Appends before after text
+abbrev pub Whole : Bool → Answer → Option Ended → List ℕ → Option (List ℕ) → Option (List ℕ) → Type 0
+Whole met answer ended text before after = (ended_by met answer ≡ ended) × Appends before after text
 
 -- what became of what an answer prints
-abbrev pub Finishes : Option Ended → Answer → List ℕ → Option (List ℕ) → Option (List ℕ) → Type 0
-Finishes None answer text before after = Whole answer None text before after
-Finishes (Some endings.NoMemory) answer text before after = Whole answer (Some endings.NoMemory) text before after ⊎ Short text before after
-Finishes (Some endings.SinkFailed) answer text before after = Cut text before after
-Finishes (Some endings.Done) answer text before after = Whole answer (Some endings.Done) text before after
-Finishes (Some endings.DiskFailed) answer text before after = Whole answer (Some endings.DiskFailed) text before after
-Finishes (Some endings.Halted) answer text before after = Whole answer (Some endings.Halted) text before after
-Finishes (Some endings.BadJournal) answer text before after = Whole answer (Some endings.BadJournal) text before after
-Finishes (Some endings.ListenerFailed) answer text before after = Whole answer (Some endings.ListenerFailed) text before after
-Finishes (Some endings.Spent) answer text before after = Whole answer (Some endings.Spent) text before after
-Finishes (Some endings.Full) answer text before after = Whole answer (Some endings.Full) text before after
+abbrev pub Finishes : Option Ended → Bool → Answer → List ℕ → Option (List ℕ) → Option (List ℕ) → Type 0
+Finishes None met answer text before after = Whole met answer None text before after
+Finishes (Some endings.NoMemory) met answer text before after = Whole met answer (Some endings.NoMemory) text before after ⊎ Short text before after
+Finishes (Some endings.SinkFailed) met answer text before after = Cut text before after
+Finishes (Some endings.Done) met answer text before after = Whole met answer (Some endings.Done) text before after
+Finishes (Some endings.DiskFailed) met answer text before after = Whole met answer (Some endings.DiskFailed) text before after
+Finishes (Some endings.Halted) met answer text before after = Whole met answer (Some endings.Halted) text before after
+Finishes (Some endings.BadJournal) met answer text before after = Whole met answer (Some endings.BadJournal) text before after
+Finishes (Some endings.ListenerFailed) met answer text before after = Whole met answer (Some endings.ListenerFailed) text before after
+Finishes (Some endings.Spent) met answer text before after = Whole met answer (Some endings.Spent) text before after
+Finishes (Some endings.Full) met answer text before after = Whole met answer (Some endings.Full) text before after
+Finishes (Some endings.Unmet) met answer text before after = Whole met answer (Some endings.Unmet) text before after
 
--- A line was done, and what it prints was.
-pub record Goes {S : Type 0} (told : S → Told) (role : Role) (line : InitiatorLine) (result : Option Ended) (made later : List (Option Numbers)) (n m : State) (s t : S) (before after : Option (List ℕ)) : Type 0 where
+-- An item was done, and what it prints was.
+pub record Goes {S : Type 0} (told : S → Told) (role : Role) (item : Item) (result : Option Ended) (notes later : Notes) (n m : State) (s t : S) (before after : Option (List ℕ)) : Type 0 where
   pub answer : Answer
-  pub does : Does told role (request_of made line) answer n m s t
-  pub finishes : Finishes result answer (printed answer m.effects) before after
-  pub grown : result ≡ None → later ≡ made ++ adds line answer
+  pub does : Does told role (request_of notes item) answer n m s t
+  pub finishes : Finishes result (noted notes item answer m.effects).met answer (printed answer m.effects) before after
+  pub grown : result ≡ None → later ≡ noted notes item answer m.effects
 
 -- There was no memory for what it asks, and nothing was done.
 pub record Idles {S : Type 0} (result : Option Ended) (n m : State) (s t : S) (before after : Option (List ℕ)) : Type 0 where
@@ -71,9 +65,9 @@ pub record Idles {S : Type 0} (result : Option Ended) (n m : State) (s t : S) (b
   pub site : t ≡ s
   pub sink : after ≡ before
 
-abbrev pub Takes : {S : Type 0} → (S → Told) → Role → InitiatorLine → Option Ended → List (Option Numbers) → List (Option Numbers) → State → State → S → S → Option (List ℕ) → Option (List ℕ) → Type 0
-Takes told role line result made later n m s t before after =
-    Goes told role line result made later n m s t before after ⊎ Idles result n m s t before after
+abbrev pub Takes : {S : Type 0} → (S → Told) → Role → Item → Option Ended → Notes → Notes → State → State → S → S → Option (List ℕ) → Option (List ℕ) → Type 0
+Takes told role item result notes later n m s t before after =
+    Goes told role item result notes later n m s t before after ⊎ Idles result n m s t before after
 
 -- a text was printed, and it ends so; or a beginning of it, not all where memory was wanted
 abbrev pub Tells : List ℕ → Ended → Ended → Option (List ℕ) → Option (List ℕ) → Type 0

@@ -1,9 +1,10 @@
 //! What a line was answered.
 
 ghost use Rattle.std.specs.Prelude.{◌≡◌};
-ghost use Rattle.serving.specs.Requests.{ended_by, made_by};
+ghost use Rattle.serving.specs.Notes.{brings, is_refused, made_by};
+ghost use Rattle.serving.specs.Requests.{ended_by};
 
-use crate::service_end::Ended;
+use crate::service_end::{Ended, done_by};
 use at_base::id::Id;
 use node_at::local::Locally;
 use node_at::turn::Turned;
@@ -13,7 +14,7 @@ use node_at::turn::Turned;
 pub enum Answer {
     /// By a step.
     Local(Locally),
-    /// It is on an activity whose own line was refused, and so it was refused itself.
+    /// It is on an activity whose own line was refused, or the commit of one of which a work was, and so it was refused itself.
     Stale,
     /// By a turn.
     Turn(Turned),
@@ -30,9 +31,30 @@ impl Answer {
         }
     }
 
-    /// How serving ends behind that, where it does.
-    pub(crate) fn ended(&self) -> Option<Ended>
-        ensures { result ≡ ended_by self.now }
+    /// Whether a line was refused.
+    pub(crate) fn is_refused(&self) -> bool
+        ensures { result ≡ is_refused self.now }
+    {
+        match self {
+            Answer::Local(Locally::Refused { .. }) | Answer::Stale => true,
+            Answer::Local(_) | Answer::Turn(_) => false,
+        }
+    }
+
+    /// Whether a turn took a message: it answered 202, and was no tick.
+    pub(crate) fn brings(&self) -> bool
+        ensures { result ≡ brings self.now }
+    {
+        match self {
+            Answer::Turn(Turned::Served { status }) => *status == 202,
+            Answer::Local(_) | Answer::Stale | Answer::Turn(_) => false,
+        }
+    }
+
+    /// How serving ends behind that, where it does: whether until then no line was refused, and each activity that ended was
+    /// committed.
+    pub(crate) fn ended(&self, met: bool) -> Option<Ended>
+        ensures { result ≡ ended_by met self.now }
     {
         match self {
             Answer::Local(local) => match local {
@@ -43,7 +65,7 @@ impl Answer {
             Answer::Stale => None,
             Answer::Turn(turned) => match turned {
                 Turned::Served { .. } | Turned::Ticked | Turned::NoRoom => None,
-                Turned::Closed => Some(Ended::Done),
+                Turned::Closed => Some(done_by(met)),
                 Turned::Halted => Some(Ended::Halted),
                 Turned::LinkDown => Some(Ended::ListenerFailed),
             },

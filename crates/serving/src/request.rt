@@ -1,7 +1,8 @@
 //! What a line of an initiator asks.
 
 ghost use Rattle.std.specs.Prelude.{◌≡◌, IfOk};
-ghost use Rattle.serving.specs.Requests.{activity_at, request_of};
+ghost use Rattle.serving.specs.Notes.{is_unmet};
+ghost use Rattle.serving.specs.Requests.{activity_at, commit_of, line_request};
 
 use at_base::event::Local;
 use at_base::id::Id;
@@ -13,7 +14,7 @@ use std::alloc::{AllocError, Global};
 pub enum Request {
     /// A request of the node's own program.
     Local(Local),
-    /// One on an activity whose own line was refused.
+    /// One on an activity whose own line was refused, or the commit of one of which a work was.
     Stale,
     /// One turn.
     Wait,
@@ -42,13 +43,39 @@ fn activity_at(number: u32, made: &[Option<Id>]) -> Option<Id>
     }
 }
 
-/// What a line asks, where these activities were made before it.
-pub(crate) fn request_of(
+/// Whether a work of this activity was refused.
+fn is_unmet(activity: u32, unmet: &[u32]) -> bool
+    ensures { result ≡ is_unmet activity unmet.now }
+{
+    for refused in unmet {
+        if activity == *refused {
+            return true;
+        }
+    }
+    false
+}
+
+/// What the commit of an activity asks.
+fn commit_of(anyway: bool, made: &[Option<Id>], unmet: &[u32], activity: u32) -> Request
+    ensures { result ≡ commit_of anyway made.now unmet.now activity }
+{
+    if !anyway && is_unmet(activity, unmet) {
+        return Request::Stale;
+    }
+    match activity_at(activity, made) {
+        Some(activity) => Request::Local(Local::Commit { activity }),
+        None => Request::Stale,
+    }
+}
+
+/// What a line asks, where these activities were made before it, and works of these were refused.
+pub(crate) fn line_request(
     alloc: Global,
     made: &[Option<Id>],
+    unmet: &[u32],
     line: &InitiatorLine,
 ) -> Result<Request, AllocError>
-    ensures { IfOk result (λ request. request ≡ request_of made.now line.now) }
+    ensures { IfOk result (λ request. request ≡ line_request made.now unmet.now line.now) }
 {
     match line {
         InitiatorLine::Begin { coordinator, ms } => {
@@ -92,10 +119,9 @@ pub(crate) fn request_of(
             }
             None => Ok(Request::Stale),
         },
-        InitiatorLine::Commit { activity } => match activity_at(*activity, made) {
-            Some(activity) => Ok(Request::Local(Local::Commit { activity })),
-            None => Ok(Request::Stale),
-        },
+        InitiatorLine::Commit { activity, anyway } => Ok(commit_of(
+            *anyway, made, unmet, *activity,
+        )),
         InitiatorLine::Rollback { activity } => match activity_at(*activity, made) {
             Some(activity) => Ok(Request::Local(Local::Rollback { activity })),
             None => Ok(Request::Stale),

@@ -1,12 +1,12 @@
 //! Serving.
 
-ghost use Rattle.std.specs.Prelude.{◌≡◌, ◌++◌, IfOk, codes};
+ghost use Rattle.std.specs.Prelude.{◌≡◌, IfOk, option_map};
 ghost use Rattle.node_at.specs.State.{IsNode, seen};
 ghost use Rattle.site_model.specs.Counts.{Rose};
 ghost use Rattle.serving.specs.Lines.{fault_text};
 ghost use Rattle.serving.specs.Runs.{Comes, Prints, Serves, all_lines, start_ended};
 ghost use Rattle.serving.specs.Sessions.{Tells};
-ghost use Rattle.serving.specs.Services.{serviced};
+ghost use Rattle.serving.specs.Services.{base_at, serviced};
 ghost use Rattle.serving.specs.declared.service_end.Ended.TheVariants.{SinkFailed};
 
 use crate::lines::{fault_text, up_line};
@@ -21,10 +21,14 @@ use site_model::sink::{Sink, write_all};
 use site_model::site::Site;
 use std::alloc::{AllocError, Global};
 
-/// The base of a node at this address.
-fn base_of(alloc: Global, listen: &str) -> Result<Text, AllocError>
-    ensures { IfOk result (λ base. base ≡ codes "http://" ++ listen.now) }
+/// The base of a node: this one, or else that of its address.
+fn base_of(alloc: Global, listen: &str, given: Option<&str>) -> Result<Text, AllocError>
+    ensures { IfOk result (λ base. base ≡ base_at listen.now (option_map (λ b. b.now) given.entry)) }
 {
+    if let Some(given) = given {
+        let base = Text::copied(alloc, given)?;
+        return Ok(base);
+    }
     let mut base = Text::copied(alloc, "http://")?;
     base.push_str(listen)?;
     Ok(base)
@@ -69,6 +73,9 @@ fn attend<K: Sink, H: Site>(
     let mut session = Session {
         node,
         made: Vec::new(alloc),
+        unmet: Vec::new(alloc),
+        met: true,
+        waited: 0,
     };
     session.attend(alloc, service.lines, service.turns, sink, site)
 }
@@ -89,7 +96,7 @@ pub fn serve<K: Sink, H: Site>(
         Ok(()) => {}
         Err(why) => return attach_ended(why),
     }
-    let base = match base_of(alloc, service.listen) {
+    let base = match base_of(alloc, service.listen, service.base) {
         Ok(base) => base,
         Err(_) => return Ended::NoMemory,
     };

@@ -1,6 +1,7 @@
 //! How serving ended.
 
 ghost use Rattle.std.specs.Prelude.{◌≡◌};
+ghost use Rattle.serving.specs.Requests.{done_by};
 ghost use Rattle.serving.specs.Runs.{attach_ended, start_ended};
 
 use node_at::fault::StartFault;
@@ -27,6 +28,15 @@ pub enum Ended {
     Spent,
     /// The journal has no room for the record of one more start.
     Full,
+    /// As `Done`; but a line was refused, or an activity ended otherwise than committed.
+    Unmet,
+}
+
+/// How it ends where all was done: whether no line was refused, and each activity that ended was committed.
+pub(crate) fn done_by(met: bool) -> Ended
+    ensures { result ≡ done_by met }
+{
+    if met { Ended::Done } else { Ended::Unmet }
 }
 
 /// How it ends where files or listener couldn't be opened.

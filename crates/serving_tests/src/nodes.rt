@@ -25,7 +25,7 @@ fn served_within<H: Site>(
     role: Role,
     limit: u32,
     input: &[u8],
-    turns: u32,
+    turns: u64,
     site: &mut H,
 ) -> Option<(Ended, MemSink)> {
     if input.len() > 1000 {
@@ -35,6 +35,7 @@ fn served_within<H: Site>(
     let service = Service {
         role,
         listen: "127.0.0.1:9001",
+        base: None,
         journal: "j",
         limit,
         lines: lines.as_slice(),
@@ -50,7 +51,7 @@ fn served<H: Site>(
     alloc: Global,
     role: Role,
     input: &[u8],
-    turns: u32,
+    turns: u64,
     site: &mut H,
 ) -> Option<(Ended, MemSink)> {
     served_within(alloc, role, u32::MAX, input, turns, site)
@@ -61,7 +62,7 @@ fn serves<H: Site>(
     alloc: Global,
     role: Role,
     input: &str,
-    turns: u32,
+    turns: u64,
     site: &mut H,
     ended: Ended,
     printed: &str,
@@ -82,20 +83,20 @@ fn visited(alloc: Global, visits: &[&[u8]]) -> Option<MemSite> {
 }
 
 /// The lines of an initiator, how many turns follow, how it ends, and what is printed. Nobody connects.
-const LINES: &[(&str, u32, Ended, &str)] = &[
+const LINES: &[(&str, u64, Ended, &str)] = &[
     ("", 0, Ended::Done, "up 1\n"),
     ("", 5, Ended::Done, "up 1\n"),
     ("wait\n", 0, Ended::Done, "up 1\n"),
     (
         "begin http://n2.example 0\ncommit 1\nwait\nrollback 1\n",
         0,
-        Ended::Done,
+        Ended::Unmet,
         "up 1\nrefused state\n",
     ),
     (
         "begin http://n2.example 0\ninterpose 1 http://n2.example\nwork 2 http://n2.example d prepared k v\nrollback 2\n",
         0,
-        Ended::Done,
+        Ended::Unmet,
         "up 1\nrefused state\nrefused state\nrefused state\n",
     ),
 ];

@@ -4,7 +4,7 @@ use Rattle.command_line.specs.Jobs.{IsJobOf}
 use Rattle.command_line.specs.Jobs.Job.{Make, Serve}
 use Rattle.command_line.specs.Views.{meant, meant_serving}
 use Rattle.command_line.proofs.Summaries.{summed_as}
-use Rattle.command_line.proofs.Servings.{initiated_as, served_as, unread_by, unserved}
+use Rattle.command_line.proofs.Servings.{initiated_as, served_as, unread_by, unreported, unserved}
 use Rattle.command_line.proofs.run.run.Goals as goal
 
 pub returns-in-Ok-Make-clause-summed : goal.returns-in-Ok-Make-clause-summed
@@ -30,3 +30,7 @@ returns-in-Ok-Serve-clause-initiated g c = λ serving job.
 pub returns-in-Err-clause-served : goal.returns-in-Err-clause-served
 returns-in-Err-clause-served g c = λ serving job other.
     unserved g.H.Site.told (map string_bytes c.args.words.now) c.in-Err.reason serving [] _ _ _ _ c.in-Err.ensures.none job c.tell.ensures.statuses c.tell.ensures.silent
+
+pub returns-in-Err-clause-report : goal.returns-in-Err-clause-report
+returns-in-Err-clause-report g c = λ filter input job left few source sink.
+    unreported (map string_bytes c.args.words.now) c.in-Err.reason filter input _ _ _ c.in-Err.ensures.none job c.tell.ensures.statuses c.tell.ensures.silent

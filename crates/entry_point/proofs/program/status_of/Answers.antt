@@ -1,4 +1,6 @@
-use Rattle.std.proofs.Common.{inl, refl, ◌∙◌}
+use Rattle.std.proofs.Common.{inl, refl, ap, map, ◌∙◌}
+use Rattle.std.specs.Prelude.{string_bytes}
+use Rattle.entry_point.specs.Asking.{heard}
 use Rattle.entry_point.proofs.program.status_of.Goals as goal
 
 pub returns : goal.returns
@@ -11,7 +13,7 @@ returns g c = inl (record {
   left_sink = _;
   left_site = _;
   ensured = c.job.ensures;
-  of_words = c.as_slice.ensures.value ∙ c.in-Ok.ensures;
+  of_words = ap (map string_bytes) c.as_slice.ensures.value ∙ (c.in-Ok-heard.ensures ∙ ap (λ v. heard (map string_bytes v)) c.in-Ok.ensures);
   of_source = refl;
   of_sink = refl;
   of_site = refl;
