@@ -38,6 +38,7 @@ fn main(rt: HostRuntime) -> ExitCode {
         env::args(&rt),
         &mut Reading::new(rt.stdin()),
         &mut Writing::new(rt.stdout()),
+        &mut Writing::new(rt.stderr()),
         &mut site,
         run,
     );

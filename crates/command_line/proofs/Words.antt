@@ -64,18 +64,15 @@ pub none_found : (words : List Text) (found : Option (Text × List Row)) → fau
     → Tells words UnknownState
 none_found words found e f g n = ((n, asks_nothing (fault_of whole words) e), e, ap unread_text (sym f ∙ g))
 
-not_five : (status : ℕ) → status ≡ 2 → (status ≡ 5 → ⊥)
-not_five status e five = let no_more : true ≡ false = ap (λ n. nat_eq n 5) (sym five ∙ e) in absurd cc
-
 -- 2 where clap has no fault: what the value may be is said
-pub unknown_said : (words : List Text) (reason : NoJob) (old new : Option (List ℕ)) (status : ℕ) → Tells words reason
-    → IsTrue (list_any (nat_eq status) (statuses_of reason)) → ((status ≡ 5 → ⊥) → Appends old new (told reason))
-    → status ≡ 2 → fault_of whole words ≡ [] → Appends old new (unread_text (subcommand_of whole words))
-unknown_said words NoMemory old new status h s t e f = let no_more : IsTrue false = subst (λ n. IsTrue (list_any (nat_eq n) (9 ∷ []))) e s in absurd cc
-unknown_said words (Question text) old new status h s t e f = let no_more : IsTrue false = subst (λ n. IsTrue (list_any (nat_eq n) (0 ∷ 5 ∷ []))) e s in absurd cc
-unknown_said words (Refused text) old new status h s t e f = absurd (h.1 f)
-unknown_said words UnknownState old new status h s t e f = subst (Appends old new) (sym h.2) (t (not_five status e))
-unknown_said words NoDestination old new status h s t e f = subst (Appends old new) (sym h.2) (t (not_five status e))
-unknown_said words NoNumbers old new status h s t e f = subst (Appends old new) (sym h.2) (t (not_five status e))
-unknown_said words NoServing old new status h s t e f = subst (Appends old new) (sym h.2) (t (not_five status e))
-unknown_said words NoBase old new status h s t e f = subst (Appends old new) (sym h.2) (t (not_five status e))
+pub unknown_said : (words : List Text) (reason : NoJob) (old new : Option (List ℕ)) (status : ℕ) (Kept : Type 0) → Tells words reason
+    → IsTrue (list_any (nat_eq status) (statuses_of reason)) → (status ≡ 2 → Kept → Appends old new (told reason))
+    → status ≡ 2 → fault_of whole words ≡ [] → Kept → Appends old new (unread_text (subcommand_of whole words))
+unknown_said words NoMemory old new status Kept h s t e f k = let no_more : IsTrue false = subst (λ n. IsTrue (list_any (nat_eq n) (9 ∷ []))) e s in absurd cc
+unknown_said words (Question text) old new status Kept h s t e f k = let no_more : IsTrue false = subst (λ n. IsTrue (list_any (nat_eq n) (0 ∷ 5 ∷ []))) e s in absurd cc
+unknown_said words (Refused text) old new status Kept h s t e f k = absurd (h.1 f)
+unknown_said words UnknownState old new status Kept h s t e f k = subst (Appends old new) (sym h.2) (t e k)
+unknown_said words NoDestination old new status Kept h s t e f k = subst (Appends old new) (sym h.2) (t e k)
+unknown_said words NoNumbers old new status Kept h s t e f k = subst (Appends old new) (sym h.2) (t e k)
+unknown_said words NoServing old new status Kept h s t e f k = subst (Appends old new) (sym h.2) (t e k)
+unknown_said words NoBase old new status Kept h s t e f k = subst (Appends old new) (sym h.2) (t e k)

@@ -120,14 +120,14 @@ SaysServing rows _ = ⊥
 abbrev pub statuses_of : NoJob → List ℕ
 statuses_of none.NoMemory = 9 ∷ []
 statuses_of (none.Question text) = 0 ∷ 5 ∷ []
-statuses_of (none.Refused text) = 2 ∷ 5 ∷ []
-statuses_of none.UnknownState = 2 ∷ 5 ∷ []
-statuses_of none.NoDestination = 2 ∷ 5 ∷ []
-statuses_of none.NoNumbers = 2 ∷ 5 ∷ []
-statuses_of none.NoServing = 2 ∷ 5 ∷ []
-statuses_of none.NoBase = 2 ∷ 5 ∷ []
+statuses_of (none.Refused text) = 2 ∷ []
+statuses_of none.UnknownState = 2 ∷ []
+statuses_of none.NoDestination = 2 ∷ []
+statuses_of none.NoNumbers = 2 ∷ []
+statuses_of none.NoServing = 2 ∷ []
+statuses_of none.NoBase = 2 ∷ []
 
--- what is printed of it
+-- what is said of it: of a question on the output, of words that are faulty among the errors
 abbrev pub told : NoJob → List ℕ
 told none.NoMemory = []
 told (none.Question text) = string_bytes text

@@ -91,16 +91,28 @@ pub(crate) fn print<K: Sink>(sink: &mut K, printed: &Printed) -> u8
     }
 }
 
-/// Writes this text, and gives the status.
-fn say<K: Sink>(sink: &mut K, text: &str, status: u8) -> u8
-    ensures statuses { IsTrue (list_any (nat_eq result) (status ∷ 5 ∷ [])) }
-    ensures cause { result ≡ 5 → status ≢ 5 → Rose (K.faults sink.old) (K.faults sink.new) }
+/// Answers what the words ask, and gives the status.
+fn answer<K: Sink>(sink: &mut K, text: &str) -> u8
+    ensures statuses { IsTrue (list_any (nat_eq result) (0 ∷ 5 ∷ [])) }
+    ensures cause { result ≡ 5 → Rose (K.faults sink.old) (K.faults sink.new) }
     ensures all { result ≢ 5 → Appends (K.contents sink.old) (K.contents sink.new) text.now }
     ensures part { (n : ℕ) × ((n ≤ length text.now) × Appends (K.contents sink.old) (K.contents sink.new) (take n text.now)) }
 {
     match write_all(sink, text.as_bytes()) {
-        Ok(()) => status,
+        Ok(()) => DONE,
         Err(_) => SINK_FAILED,
+    }
+}
+
+/// Says among the errors why the words are no job, as far as these take it, and gives the status.
+fn complain<E: Sink>(errors: &mut E, text: &str) -> u8
+    ensures status { result ≡ 2 }
+    ensures all { ¬ (Rose (E.faults errors.old) (E.faults errors.new)) → Appends (E.contents errors.old) (E.contents errors.new) text.now }
+    ensures part { (n : ℕ) × ((n ≤ length text.now) × Appends (E.contents errors.old) (E.contents errors.new) (take n text.now)) }
+{
+    match write_all(errors, text.as_bytes()) {
+        Ok(()) => NO_JOB,
+        Err(_) => NO_JOB,
     }
 }
 
@@ -149,23 +161,27 @@ fn no_base() -> &'static str
 For more information, try '--help'.\n"
 }
 
-/// Says why the words are no job, and gives the status.
-fn tell<K: Sink>(sink: &mut K, reason: &NoJob) -> u8
+/// Answers a question, or says why the words are no job, and gives the status.
+fn tell<K: Sink, E: Sink>(sink: &mut K, errors: &mut E, reason: &NoJob) -> u8
     ensures statuses { IsTrue (list_any (nat_eq result) (statuses_of reason.now)) }
     ensures cause { result ≡ 5 → Rose (K.faults sink.old) (K.faults sink.new) }
     ensures said { (said : List ℕ) × Appends (K.contents sink.old) (K.contents sink.new) said }
-    ensures told { result ≢ 5 → Appends (K.contents sink.old) (K.contents sink.new) (told reason.now) }
+    ensures answered { result ≡ 0 → Appends (K.contents sink.old) (K.contents sink.new) (told reason.now) }
+    ensures complained { result ≡ 2 → ¬ (Rose (E.faults errors.old) (E.faults errors.new)) → Appends (E.contents errors.old) (E.contents errors.new) (told reason.now) }
+    ensures part { result ≡ 2 → (n : ℕ) × ((n ≤ length (told reason.now)) × Appends (E.contents errors.old) (E.contents errors.new) (take n (told reason.now))) }
+    ensures kept { result ≡ 2 → sink.new ≡ sink.old }
+    ensures apart { result ≢ 2 → errors.new ≡ errors.old }
     ensures silent { Leaves reason.now (Appends (K.contents sink.old) (K.contents sink.new) []) }
 {
     match reason {
         NoJob::NoMemory => NO_MEMORY,
-        NoJob::Question(text) => say(sink, text.as_str(), DONE),
-        NoJob::Refused(text) => say(sink, text.as_str(), NO_JOB),
-        NoJob::UnknownState => say(sink, unknown_state(), NO_JOB),
-        NoJob::NoDestination => say(sink, no_destination(), NO_JOB),
-        NoJob::NoNumbers => say(sink, no_numbers(), NO_JOB),
-        NoJob::NoServing => say(sink, no_serving(), NO_JOB),
-        NoJob::NoBase => say(sink, no_base(), NO_JOB),
+        NoJob::Question(text) => answer(sink, text.as_str()),
+        NoJob::Refused(text) => complain(errors, text.as_str()),
+        NoJob::UnknownState => complain(errors, unknown_state()),
+        NoJob::NoDestination => complain(errors, no_destination()),
+        NoJob::NoNumbers => complain(errors, no_numbers()),
+        NoJob::NoServing => complain(errors, no_serving()),
+        NoJob::NoBase => complain(errors, no_base()),
     }
 }
 
@@ -213,26 +229,30 @@ fn filter<S: Source, K: Sink>(
 /// prints its report; `replay --settle` brings its world to rest behind the last line. `make --seed S --steps N` reads
 /// nothing, and prints how the schedule of a seed comes out. All that these print is made in memory before the first write.
 /// `tick --to U` posts to U`/tick`, and reads and prints nothing. `--help` and `--version` are answered without a look at
-/// the source, and so are words that clap refuses: it says why. A value that doesn't read is answered with what it may be.
+/// the source. Of words that clap refuses, and of a value that doesn't read, the errors are told why, and nothing is printed.
 /// `coordinator`, `participant` and `initiator` serve a node (`serving`), the last after it has read its lines from the source.
 /// But for these and for `tick` the site stays as it is.
 #[tactic(auto, using(crate::proofs::Words::unknown_said, crate::proofs::Summaries::few_steps, crate::proofs::Servings::unread_by))]
-pub fn run<S: Source, K: Sink, H: Site>(
+pub fn run<S: Source, K: Sink, E: Sink, H: Site>(
     alloc: Global,
     words: &[String],
     source: &mut S,
     sink: &mut K,
+    errors: &mut E,
     site: &mut H,
 ) -> u8
     ensures statuses { IsTrue (list_any (nat_eq result) (0 ∷ 2 ∷ 3 ∷ 4 ∷ 5 ∷ 6 ∷ 7 ∷ 8 ∷ 9 ∷ 10 ∷ 11 ∷ 12 ∷ 13 ∷ 14 ∷ [])) }
     ensures words { result ≡ 2 → IsFaulty (map string_bytes words.now) }
-    ensures faulty { IsFaulty (map string_bytes words.now) → IsTrue (list_any (nat_eq result) (2 ∷ 5 ∷ 9 ∷ [])) }
+    ensures faulty { IsFaulty (map string_bytes words.now) → IsTrue (list_any (nat_eq result) (2 ∷ 9 ∷ [])) }
     ensures question { IsQuestion (map string_bytes words.now) → IsTrue (list_any (nat_eq result) (0 ∷ 5 ∷ 9 ∷ [])) }
     ensures filtered { IsFilter (map string_bytes words.now) → IsTrue (list_any (nat_eq result) (0 ∷ 3 ∷ 4 ∷ 5 ∷ 9 ∷ 10 ∷ 12 ∷ 14 ∷ [])) }
     ensures gave_up { (filter : Filtering) → IsJobOf (map string_bytes words.now) (Filters filter) → IsTrue (list_any (nat_eq result) (12 ∷ 14 ∷ [])) → is_replay filter ≡ true }
     ensures unread { ¬ (IsFilter (map string_bytes words.now)) → ¬ (IsInitiator (map string_bytes words.now)) → source.new ≡ source.old }
     ensures said { ¬ (IsJob (map string_bytes words.now)) → (said : List ℕ) × Appends (K.contents sink.old) (K.contents sink.new) said }
-    ensures unknown { result ≡ 2 → fault_of whole (map string_bytes words.now) ≡ [] → Appends (K.contents sink.old) (K.contents sink.new) (unread_text (subcommand_of whole (map string_bytes words.now))) }
+    ensures kept { result ≡ 2 → sink.new ≡ sink.old }
+    ensures apart { result ≢ 2 → errors.new ≡ errors.old }
+    ensures complained { result ≡ 2 → (said : List ℕ) × Appends (E.contents errors.old) (E.contents errors.new) said }
+    ensures unknown { result ≡ 2 → fault_of whole (map string_bytes words.now) ≡ [] → ¬ (Rose (E.faults errors.old) (E.faults errors.new)) → Appends (E.contents errors.old) (E.contents errors.new) (unread_text (subcommand_of whole (map string_bytes words.now))) }
     ensures untouched { ((to : PostTo) → ¬ (IsJobOf (map string_bytes words.now) (Tick to))) → ¬ (IsServing (map string_bytes words.now)) → site.new ≡ site.old }
     ensures making { (seed steps : ℕ) → IsJobOf (map string_bytes words.now) (Make seed steps) → IsTrue (list_any (nat_eq result) (0 ∷ 5 ∷ 9 ∷ [])) }
     ensures summed { (seed steps : ℕ) → IsJobOf (map string_bytes words.now) (Make seed steps) → result ≡ 0 → IsSummed seed steps (K.contents sink.old) (K.contents sink.new) }
@@ -263,6 +283,6 @@ pub fn run<S: Source, K: Sink, H: Site>(
         Ok(Job::Make { seed, steps }) => make(alloc, seed, steps, sink),
         Ok(Job::Tick(to)) => tick(alloc, &to, site),
         Ok(Job::Serve(serving)) => serve_node(alloc, &serving, source, sink, site),
-        Err(reason) => tell(sink, &reason),
+        Err(reason) => tell(sink, errors, &reason),
     }
 }

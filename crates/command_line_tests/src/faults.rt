@@ -53,11 +53,13 @@ fn cut_off(alloc: Global, room: usize, left: &[u8]) -> Result<(u8, bool), AllocE
         room,
         faults: 0,
     };
+    let mut errors = MemSink::new(alloc);
     let status = run(
         alloc,
         words.as_slice(),
         &mut source,
         &mut sink,
+        &mut errors,
         &mut SureSite::new(),
     );
     Ok((status, sink.bytes.as_slice() == left))
@@ -87,10 +89,10 @@ const FAULTS: &[(&str, u32, u32, u32, u8)] = &[
     ("--help", 1, 0, 0, 0),
     ("--help", 0, 1, 0, 5),
     ("help", 1, 0, 0, 2),
-    ("help", 0, 0, 1, 5),
+    ("help", 0, 0, 1, 2),
 ];
 
-/// The status of a command over the plain schedule, with these faults.
+/// The status of a command over the plain schedule, with these faults, where the errors can't be told.
 fn faulty(
     rt: HostRuntime,
     line: &str,
@@ -104,11 +106,14 @@ fn faulty(
     let mut sink = MemSink::new(rt.alloc());
     sink.fail(sink_fails);
     sink.idle(sink_idles);
+    let mut errors = MemSink::new(rt.alloc());
+    errors.fail(1);
     Ok(run(
         rt.alloc(),
         words.as_slice(),
         &mut source,
         &mut sink,
+        &mut errors,
         &mut SureSite::new(),
     ))
 }

@@ -16,8 +16,17 @@ use std::test::Fail;
 fn ends_with(alloc: Global, words: io::Result<Args>, status: u8) -> Result<bool, AllocError> {
     let mut source = MemSource::new(alloc, b"")?;
     let mut sink = MemSink::new(alloc);
+    let mut errors = MemSink::new(alloc);
     let mut site = SureSite::new();
-    let ended = with_words(alloc, words, &mut source, &mut sink, &mut site, run);
+    let ended = with_words(
+        alloc,
+        words,
+        &mut source,
+        &mut sink,
+        &mut errors,
+        &mut site,
+        run,
+    );
     Ok(ended == ExitCode::from(status))
 }
 

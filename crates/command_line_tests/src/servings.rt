@@ -1,6 +1,6 @@
 //! Commands that serve, through the top call.
 
-use crate::top_call::words_of;
+use crate::top_call::{are_said, words_of};
 use command_line::run::run;
 use site_memory::machine::MemSite;
 use site_model::memory::{MemSink, MemSource};
@@ -21,8 +21,16 @@ fn serves<H: Site>(
     let words = words_of(alloc, line)?;
     let mut source = MemSource::new(alloc, input.as_bytes())?;
     let mut sink = MemSink::new(alloc);
-    let status = run(alloc, words.as_slice(), &mut source, &mut sink, site);
-    Ok((status, sink.as_slice() == printed.as_bytes()))
+    let mut errors = MemSink::new(alloc);
+    let status = run(
+        alloc,
+        words.as_slice(),
+        &mut source,
+        &mut sink,
+        &mut errors,
+        site,
+    );
+    Ok((status, are_said(status, &sink, &errors, printed)))
 }
 
 const NO_SERVING: &str =

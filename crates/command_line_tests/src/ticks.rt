@@ -12,7 +12,7 @@ const TICK: &[u8] =
 const NO_DESTINATION: &[u8] = b"error: invalid value for '--to <URL>'\n  \
 [an http URL, with '/tick' behind it of at most 2048 bytes]\n\nFor more information, try '--help'.\n";
 
-/// The status of a tick to a node at this URL, and what is printed.
+/// The status of a tick to a node at this URL, and what is said.
 fn ticks(alloc: Global, site: &mut MemSite, url: &str) -> Result<(u8, Vec<u8>), AllocError> {
     let mut words = Vec::new(alloc);
     words.push(String::from_str(alloc, "tick")?)?;
@@ -20,8 +20,17 @@ fn ticks(alloc: Global, site: &mut MemSite, url: &str) -> Result<(u8, Vec<u8>), 
     words.push(String::from_str(alloc, url)?)?;
     let mut source = MemSource::new(alloc, b"unread")?;
     let mut sink = MemSink::new(alloc);
-    let status = run(alloc, words.as_slice(), &mut source, &mut sink, site);
-    Ok((status, Vec::from_slice(alloc, sink.as_slice())?))
+    let mut errors = MemSink::new(alloc);
+    let status = run(
+        alloc,
+        words.as_slice(),
+        &mut source,
+        &mut sink,
+        &mut errors,
+        site,
+    );
+    let said = if status == 2 { errors } else { sink };
+    Ok((status, Vec::from_slice(alloc, said.as_slice())?))
 }
 
 /// One post is sent, to the host and port of the URL; where that fails, none is, and the status says so.

@@ -1,7 +1,7 @@
 //! The top call over sources and sinks in memory.
 
-use entry_point::help::heard;
 use command_line::run::run;
+use entry_point::help::heard;
 use site_model::memory::{MemSink, MemSource};
 use site_model::sure_site::SureSite;
 use std::alloc::{AllocError, Global};
@@ -16,7 +16,16 @@ pub fn words_of(alloc: Global, line: &str) -> Result<Vec<String>, AllocError> {
     Ok(words)
 }
 
-/// The status of a command over this input, and whether what it prints is this.
+/// Whether this was printed; where the words are no job, it was told the errors, and nothing was printed.
+pub fn are_said(status: u8, sink: &MemSink, errors: &MemSink, said: &str) -> bool {
+    if status == 2 {
+        sink.as_slice().is_empty() && errors.as_slice() == said.as_bytes()
+    } else {
+        errors.as_slice().is_empty() && sink.as_slice() == said.as_bytes()
+    }
+}
+
+/// The status of a command over this input, and whether what it says is this.
 pub fn prints(
     rt: HostRuntime,
     line: &str,
@@ -26,14 +35,16 @@ pub fn prints(
     let words = heard(rt.alloc(), words_of(rt.alloc(), line)?)?;
     let mut source = MemSource::new(rt.alloc(), input)?;
     let mut sink = MemSink::new(rt.alloc());
+    let mut errors = MemSink::new(rt.alloc());
     let status = run(
         rt.alloc(),
         words.as_slice(),
         &mut source,
         &mut sink,
+        &mut errors,
         &mut SureSite::new(),
     );
-    Ok((status, sink.as_slice() == printed.as_bytes()))
+    Ok((status, are_said(status, &sink, &errors, printed)))
 }
 
 /// What a command prints of this input, where its status is 0; else nothing.
@@ -41,11 +52,13 @@ pub fn printed(alloc: Global, line: &str, input: &[u8]) -> Result<Vec<u8>, Alloc
     let words = words_of(alloc, line)?;
     let mut source = MemSource::new(alloc, input)?;
     let mut sink = MemSink::new(alloc);
+    let mut errors = MemSink::new(alloc);
     let status = run(
         alloc,
         words.as_slice(),
         &mut source,
         &mut sink,
+        &mut errors,
         &mut SureSite::new(),
     );
     if status != 0 {
