@@ -7,6 +7,8 @@ use crate::standard_streams::{Reading, Writing};
 use atx_sites::node_site::NodeSite;
 use command_line::run::run;
 use entry_point::program::with_words;
+use logged_sites::log::Log;
+use logged_sites::logged_site::LoggedSite;
 use real_system::real_system::RealSystem;
 use std::env::{self, Args};
 use std::io;
@@ -15,24 +17,33 @@ use std::process::ExitCode;
 /// How long a node waits for a connection until it does by itself what is due.
 const TIMER_MILLIS: u64 = 1000;
 
-/// Whether a word is `--turns`, or begins with `--turns=`: a node whose turns are counted has no timer of its own.
-fn counts_turns(words: io::Result<Args>) -> bool {
+/// Whether an option is among the words, alone or with its value behind `=`.
+fn is_given(words: io::Result<Args>, option: &str) -> bool {
     let Ok(words) = words else {
         return false;
     };
     for word in words {
-        if word.as_str() == "--turns" || word.as_str().starts_with("--turns=") {
-            return true;
+        if let Some(behind) = word.as_str().strip_prefix(option) {
+            if behind.is_empty() || behind.starts_with('=') {
+                return true;
+            }
         }
     }
     false
 }
 
+/// The machine has a timer of its own unless turns are counted, and a log where one is asked for.
 fn main(rt: HostRuntime) -> ExitCode {
-    let mut site = NodeSite::new(rt.alloc(), RealSystem::new(&rt));
-    if !counts_turns(env::args(&rt)) {
-        site.keep_time(TIMER_MILLIS);
+    let mut machine = NodeSite::new(rt.alloc(), RealSystem::new(&rt));
+    if !is_given(env::args(&rt), "--turns") {
+        machine.keep_time(TIMER_MILLIS);
     }
+    let log = if is_given(env::args(&rt), "--log") {
+        Some(Log::new(rt.alloc(), Writing::new(rt.stderr()), &rt))
+    } else {
+        None
+    };
+    let mut site = LoggedSite::new(rt.alloc(), machine, log);
     let status = with_words(
         rt.alloc(),
         env::args(&rt),

@@ -157,40 +157,47 @@ fn turns<'a>(alloc: Global) -> Arg<'a>
     valued(alloc, "turns", "N").help("How many connections are served; without it no end of them")
 }
 
-/// `coordinator --listen ADDR [--base URL] --journal F [--turns N]`.
+/// `--log`.
+fn log<'a>(alloc: Global) -> Arg<'a>
+    ensures rule { rule_of result ≡ flag (codes "log") }
+    ensures local { result.global ≡ false }
+{
+    flag(alloc, "log").help("Write a line to standard error of each request, answer and post")
+}
+
+/// `NAME --listen ADDR [--base URL] --journal F [--turns N] [--log]`.
+fn serving<'a>(alloc: Global, name: &'a str, about: &'a str) -> Result<Command<'a>, AllocError>
+    ensures { IfOk result (IsCommand (serving name.entry.now)) }
+{
+    Command::new(alloc, name)
+        .about(about)
+        .arg(listen(alloc))?
+        .arg(base(alloc))?
+        .arg(journal(alloc))?
+        .arg(turns(alloc))?
+        .arg(log(alloc))
+}
+
+/// `coordinator ..`.
 fn coordinator<'a>(alloc: Global) -> Result<Command<'a>, AllocError>
     ensures { IfOk result (IsCommand (serving (codes "coordinator"))) }
 {
-    Command::new(alloc, "coordinator")
-        .about("Serve as a coordinator")
-        .arg(listen(alloc))?
-        .arg(base(alloc))?
-        .arg(journal(alloc))?
-        .arg(turns(alloc))
+    serving(alloc, "coordinator", "Serve as a coordinator")
 }
 
-/// `participant --listen ADDR [--base URL] --journal F [--turns N]`.
+/// `participant ..`.
 fn participant<'a>(alloc: Global) -> Result<Command<'a>, AllocError>
     ensures { IfOk result (IsCommand (serving (codes "participant"))) }
 {
-    Command::new(alloc, "participant")
-        .about("Serve as a participant")
-        .arg(listen(alloc))?
-        .arg(base(alloc))?
-        .arg(journal(alloc))?
-        .arg(turns(alloc))
+    serving(alloc, "participant", "Serve as a participant")
 }
 
-/// `initiator --listen ADDR [--base URL] --journal F [--turns N]`.
+/// `initiator ..`.
 fn initiator<'a>(alloc: Global) -> Result<Command<'a>, AllocError>
     ensures { IfOk result (IsCommand (serving (codes "initiator"))) }
 {
-    Command::new(alloc, "initiator")
-        .about("Do the lines of the input as an initiator, and serve")
-        .arg(listen(alloc))?
-        .arg(base(alloc))?
-        .arg(journal(alloc))?
-        .arg(turns(alloc))
+    let about = "Do the lines of the input as an initiator, and serve";
+    serving(alloc, "initiator", about)
 }
 
 /// With the command that posts.

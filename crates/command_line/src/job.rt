@@ -49,7 +49,7 @@ pub enum Role {
     Initiator,
 }
 
-/// A node that serves: `ROLE --listen ADDR [--base URL] --journal F [--turns N]`.
+/// A node that serves: `ROLE --listen ADDR [--base URL] --journal F [--turns N] [--log]`. The log is its machine's.
 #[derive(Clone, Copy, Debug, PartialEq, Eq)]
 pub struct Serving<'a> {
     pub role: Role,

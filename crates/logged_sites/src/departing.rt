@@ -1,0 +1,23 @@
+//! A machine whose answers and posts go on leaving beside its calls.
+
+use atx_sites::node_site::NodeSite;
+use system_calls::system::System;
+
+/// A machine whose answers and posts go on leaving beside its calls, and may be lost behind them.
+pub trait Departing {
+    /// How many were lost.
+    fn lost(&self) -> u64;
+
+    /// Lets go out what still leaves, each until its own time is over.
+    fn leave(&mut self);
+}
+
+impl<S: System + Drop> Departing for NodeSite<S> {
+    fn lost(&self) -> u64 {
+        self.lost()
+    }
+
+    fn leave(&mut self) {
+        self.leave();
+    }
+}
