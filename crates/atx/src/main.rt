@@ -1,21 +1,23 @@
 //! atx: atomic transactions between web services (WS-Coordination 1.2, WS-AtomicTransaction 1.2).
 #![tactic(auto)]
 
-mod standard_streams;
-
-use crate::standard_streams::{Reading, Writing};
 use atx_sites::node_site::NodeSite;
 use command_line::run::run;
 use entry_point::program::with_words;
 use logged_sites::log::Log;
 use logged_sites::logged_site::LoggedSite;
 use real_system::real_system::RealSystem;
+use standard_streams::reading::Reading;
+use standard_streams::writing::Writing;
 use std::env::{self, Args};
 use std::io;
 use std::process::ExitCode;
 
 /// How long a node waits for a connection until it does by itself what is due.
 const TIMER_MILLIS: u64 = 1000;
+
+/// For so many seconds whoever takes what is printed may take nothing.
+const PATIENCE_SECONDS: u32 = 60;
 
 /// Whether an option is among the words, alone or with its value behind `=`.
 fn is_given(words: io::Result<Args>, option: &str) -> bool {
@@ -39,7 +41,7 @@ fn main(rt: HostRuntime) -> ExitCode {
         machine.keep_time(TIMER_MILLIS);
     }
     let log = if is_given(env::args(&rt), "--log") {
-        Some(Log::new(rt.alloc(), Writing::new(rt.stderr()), &rt))
+        Some(Log::new(rt.alloc(), Writing::new(rt.stderr(), 0), &rt))
     } else {
         None
     };
@@ -48,8 +50,8 @@ fn main(rt: HostRuntime) -> ExitCode {
         rt.alloc(),
         env::args(&rt),
         &mut Reading::new(rt.stdin()),
-        &mut Writing::new(rt.stdout()),
-        &mut Writing::new(rt.stderr()),
+        &mut Writing::new(rt.stdout(), PATIENCE_SECONDS),
+        &mut Writing::new(rt.stderr(), 0),
         &mut site,
         run,
     );

@@ -1,21 +1,13 @@
-//! Standard input and output as a source and a sink.
+//! A source over any reader.
 
-use site_model::sink::Sink;
 use site_model::source::{Failed, Source};
-use std::io::{Read, Write};
+use std::io::Read;
 
 /// A source over any reader.
 #[derive(Drop)]
 pub struct Reading<R: Read> {
     inner: R,
     given: u64,
-    faults: u64,
-}
-
-/// A sink over any writer.
-#[derive(Drop)]
-pub struct Writing<W: Write> {
-    inner: W,
     faults: u64,
 }
 
@@ -26,12 +18,6 @@ impl<R: Read> Reading<R> {
             given: 0,
             faults: 0,
         }
-    }
-}
-
-impl<W: Write> Writing<W> {
-    pub fn new(inner: W) -> Writing<W> {
-        Writing { inner, faults: 0 }
     }
 }
 
@@ -48,26 +34,6 @@ impl<R: Read> Source for Reading<R> {
                 self.given = self.given.saturating_add(n as u64);
                 Ok(n)
             }
-            Err(_) => {
-                self.faults = self.faults.saturating_add(1);
-                Err(Failed)
-            }
-        }
-    }
-}
-
-impl<W: Write> Sink for Writing<W> {
-    ghost contents = { λ s. W.contents s.inner };
-
-    ghost faults = { λ s. s.faults };
-
-    fn write(&mut self, piece: &[u8]) -> Result<usize, Failed> {
-        match self.inner.write(piece) {
-            Ok(0) => {
-                self.faults = self.faults.saturating_add(1);
-                Ok(0)
-            }
-            Ok(n) => Ok(n),
             Err(_) => {
                 self.faults = self.faults.saturating_add(1);
                 Err(Failed)
