@@ -1,0 +1,48 @@
+-- How soon the same post goes out again.
+use Rattle.std.specs.Prelude.{ℕ, ◌≡◌, ◌+◌, ◌*◌, ◌-◌, ◌⊎◌, Bool, Option, Some, None, min, nat_eq, nat_le, true, refl, if◌then◌else◌}
+use Rattle.indexmap.specs.IndexMap.{get}
+use Rattle.resend_delays.specs.declared.delays.Delay.{Delay}
+use Rattle.resend_delays.specs.declared.delays.Delays.{Delays}
+
+-- it went out first now: before that it was sent by itself, 5 s ago
+abbrev pub begun : ℕ → Delay
+begun now = record { sent = now; wait = 10000 }
+
+-- it may go out again, in milliseconds
+abbrev pub is_over : ℕ → Delay → Bool
+is_over now delay = nat_le (delay.sent + delay.wait) now
+
+-- each wait is twice the one before, and none more than a minute
+abbrev pub again : ℕ → Delay → Delay
+again now delay = record { sent = now; wait = min (2 * delay.wait) 60000 }
+
+-- Whether a post goes out of which this is known.
+abbrev pub goes : ℕ → Option Delay → Bool
+goes now None = true
+goes now (Some delay) = is_over now delay
+
+third : again 40000 (again 20000 (begun 5000)) ≡ record { sent = 40000; wait = 40000 }
+third = refl
+
+longest : again 9 (again 8 (again 7 (begun 5000))) ≡ record { sent = 9; wait = 60000 }
+longest = refl
+
+abbrev pub either : Option Delay → Option Delay → Option Delay
+either None second = second
+either (Some delay) second = Some delay
+
+-- What is known of a post that is known by this number.
+abbrev pub known : Delays → ℕ → Option Delay
+known delays number = either (get nat_eq delays.recent number) (get nat_eq delays.earlier number)
+
+-- the same now, where what nobody asked about for two minutes is forgotten
+abbrev pub kept : ℕ → Delays → ℕ → Option Delay
+kept now delays number = if nat_le 120000 (now - delays.turned) then get nat_eq delays.recent number else known delays number
+
+abbrev pub next : ℕ → Option Delay → Delay
+next now None = begun now
+next now (Some delay) = again now delay
+
+-- it is noted that the post went out, or there was no room for that
+abbrev pub IsNoted : ℕ → Option Delay → Option Delay → Type 0
+IsNoted now before behind = (behind ≡ Some (next now before)) ⊎ (behind ≡ before)

@@ -1,0 +1,147 @@
+//! How soon a post that nobody answers goes out again.
+
+ghost use Rattle.std.specs.Prelude.{ℕ, ◌≡◌, ◌⊎◌, Option, Some, None, false, true, if◌then◌else◌, ◌-◌, nat_eq, nat_le};
+ghost use Rattle.indexmap.specs.IndexMap.{get};
+ghost use Rattle.resend_delays.specs.Delays.{IsNoted, again, goes, is_over, kept, known};
+
+use indexmap::IndexMap;
+use sha1::Sha1;
+use std::alloc::{AllocError, Global};
+use std::mem;
+
+/// The milliseconds behind the first post that is sent again, until it is once more.
+const FIRST_WAIT: u64 = 10_000;
+
+/// The most milliseconds between two posts.
+const LONGEST_WAIT: u64 = 60_000;
+
+/// What isn't asked about for so many milliseconds may be forgotten.
+const FORGOTTEN_AFTER: u64 = 120_000;
+
+/// The most posts that are known. More go out each time.
+const MOST_POSTS: usize = 65_536;
+
+/// When a post last went out, and how long it waits until it may again, in milliseconds.
+#[derive(Clone, Copy, Debug, PartialEq, Eq)]
+pub struct Delay {
+    pub sent: u64,
+    pub wait: u64,
+}
+
+/// Posts that are sent again by themselves. Each goes out 10 seconds behind its first, and then behind twice as long each
+/// time, a minute at most.
+#[derive(Drop)]
+pub struct Delays {
+    alloc: Global,
+    recent: IndexMap<u64, Delay>,
+    earlier: IndexMap<u64, Delay>,
+    turned: u64,
+}
+
+/// Whether a delay is over.
+fn is_over(now: u64, delay: Delay) -> bool
+    ensures { result ≡ is_over now delay }
+{
+    delay.wait <= now && delay.sent <= now - delay.wait
+}
+
+/// The delay behind one that is over.
+fn again(now: u64, delay: Delay) -> Delay
+    ensures { result ≡ again now delay }
+{
+    let wait = if delay.wait >= LONGEST_WAIT / 2 {
+        LONGEST_WAIT
+    } else {
+        delay.wait * 2
+    };
+    Delay { sent: now, wait }
+}
+
+/// The number by which a post is known: a part of the SHA-1 of its host, its port and its bytes. Two posts with one number
+/// would wait for one another.
+pub fn number_of(host: &str, port: u16, bytes: &[u8]) -> u64 {
+    let mut sum = Sha1::new();
+    sum.update(host.as_bytes());
+    sum.update(&port.to_be_bytes());
+    sum.update(bytes);
+    let mut number = 0u64;
+    for byte in sum.finalize().iter().take(8) {
+        number = number << 8 | u64::from(*byte);
+    }
+    number
+}
+
+impl Delays {
+    pub fn new(alloc: Global) -> Delays
+        ensures { (number : ℕ) → known result number ≡ None }
+    {
+        Delays {
+            alloc,
+            recent: IndexMap::new(alloc),
+            earlier: IndexMap::new(alloc),
+            turned: 0,
+        }
+    }
+
+    /// What is known of a post.
+    pub fn find(&self, number: u64) -> Option<Delay>
+        ensures { result ≡ known self.now number }
+    {
+        match self.recent.get(&number) {
+            Some(delay) => Some(*delay),
+            None => match self.earlier.get(&number) {
+                Some(delay) => Some(*delay),
+                None => None,
+            },
+        }
+    }
+
+    /// Forgets what nobody asked about for long.
+    fn turn(&mut self, now: u64)
+        ensures { (number : ℕ) → known self.new number ≡ kept now self.old number }
+    {
+        if now.saturating_sub(self.turned) >= FORGOTTEN_AFTER {
+            let recent = mem::replace(&mut self.recent, IndexMap::new(self.alloc));
+            self.earlier = recent;
+            self.turned = now;
+        }
+    }
+
+    /// Keeps what is known of a post, where there is room.
+    fn keep(&mut self, number: u64, delay: Delay)
+        ensures { (known self.new number ≡ Some delay) ⊎ (known self.new number ≡ known self.old number) }
+    {
+        if self.recent.len() < MOST_POSTS {
+            let _ = self.recent.insert(number, delay);
+        }
+    }
+
+    /// Whether a post that is sent again goes out now, by the clock in milliseconds.
+    pub fn pass(&mut self, now: u64, number: u64) -> bool
+        ensures goes { result ≡ goes now (kept now self.old number) }
+        ensures held { result ≡ false → known self.new number ≡ kept now self.old number }
+        ensures noted { result ≡ true → IsNoted now (kept now self.old number) (known self.new number) }
+    {
+        self.turn(now);
+        match self.find(number) {
+            None => {
+                self.keep(
+                    number,
+                    Delay {
+                        sent: now,
+                        wait: FIRST_WAIT,
+                    },
+                );
+                true
+            }
+            Some(delay) if is_over(now, delay) => {
+                self.keep(number, again(now, delay));
+                true
+            }
+            Some(delay) => {
+                self.keep(number, delay);
+                false
+            }
+        }
+    }
+}
