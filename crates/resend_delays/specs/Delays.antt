@@ -4,9 +4,9 @@ use Rattle.indexmap.specs.IndexMap.{get}
 use Rattle.resend_delays.specs.declared.delays.Delay.{Delay}
 use Rattle.resend_delays.specs.declared.delays.Delays.{Delays}
 
--- it went out first now: before that it was sent by itself, 5 s ago
+-- it went out first now
 abbrev pub begun : ℕ → Delay
-begun now = record { sent = now; wait = 10000 }
+begun now = record { sent = now; wait = 5000 }
 
 -- it may go out again, in milliseconds
 abbrev pub is_over : ℕ → Delay → Bool
@@ -21,10 +21,10 @@ abbrev pub goes : ℕ → Option Delay → Bool
 goes now None = true
 goes now (Some delay) = is_over now delay
 
-third : again 40000 (again 20000 (begun 5000)) ≡ record { sent = 40000; wait = 40000 }
-third = refl
+fourth : again 35000 (again 15000 (again 5000 (begun 0))) ≡ record { sent = 35000; wait = 40000 }
+fourth = refl
 
-longest : again 9 (again 8 (again 7 (begun 5000))) ≡ record { sent = 9; wait = 60000 }
+longest : again 9 (again 8 (again 7 (again 6 (begun 5)))) ≡ record { sent = 9; wait = 60000 }
 longest = refl
 
 abbrev pub either : Option Delay → Option Delay → Option Delay

@@ -9,8 +9,8 @@ use sha1::Sha1;
 use std::alloc::{AllocError, Global};
 use std::mem;
 
-/// The milliseconds behind the first post that is sent again, until it is once more.
-const FIRST_WAIT: u64 = 10_000;
+/// The milliseconds behind a first post, until the same goes out again.
+const FIRST_WAIT: u64 = 5_000;
 
 /// The most milliseconds between two posts.
 const LONGEST_WAIT: u64 = 60_000;
@@ -28,8 +28,8 @@ pub struct Delay {
     pub wait: u64,
 }
 
-/// Posts that are sent again by themselves. Each goes out 10 seconds behind its first, and then behind twice as long each
-/// time, a minute at most.
+/// Posts, known by numbers. Behind its first the same goes out again after 5 seconds, and then after twice as long each time, a
+/// minute at most.
 #[derive(Drop)]
 pub struct Delays {
     alloc: Global,
@@ -116,7 +116,7 @@ impl Delays {
         }
     }
 
-    /// Whether a post that is sent again goes out now, by the clock in milliseconds.
+    /// Whether a post goes out now, by the clock in milliseconds.
     pub fn pass(&mut self, now: u64, number: u64) -> bool
         ensures goes { result ≡ goes now (kept now self.old number) }
         ensures held { result ≡ false → known self.new number ≡ kept now self.old number }
