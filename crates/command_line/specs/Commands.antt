@@ -55,10 +55,14 @@ filters = with_subcommand (with_subcommand (with_subcommand top cell.top) check.
 abbrev pub printing : App
 printing = with_subcommand filters make.top
 
+-- `NAME --listen ADDR [--base URL] --journal F [--turns N]`
+abbrev pub silent : Text → App
+silent name =
+    with_rule (with_rule (with_rule (with_rule (new_app name) (wanted (codes "listen"))) (valued (codes "base"))) (wanted (codes "journal"))) (valued (codes "turns"))
+
 -- `NAME --listen ADDR [--base URL] --journal F [--turns N] [--log]`
 abbrev pub serving : Text → App
-serving name =
-    with_rule (with_rule (with_rule (with_rule (with_rule (new_app name) (wanted (codes "listen"))) (valued (codes "base"))) (wanted (codes "journal"))) (valued (codes "turns"))) (flag (codes "log"))
+serving name = with_rule (silent name) (flag (codes "log"))
 
 -- with the command that posts
 abbrev pub posting : App

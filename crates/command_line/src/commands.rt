@@ -2,7 +2,7 @@
 
 ghost use Rattle.std.specs.Prelude.{◌≡◌, false, IfOk, codes};
 ghost use Rattle.clap.specs.Walk.{rule_of};
-ghost use Rattle.command_line.specs.Commands.{IsCommand, valued, wanted, flag, cell, check, replay, make, coordinating, filters, participating, posting, printing, serving, tick, top, whole};
+ghost use Rattle.command_line.specs.Commands.{IsCommand, valued, wanted, flag, cell, check, replay, make, coordinating, filters, participating, posting, printing, serving, silent, tick, top, whole};
 
 use clap::{Arg, ArgAction, Command};
 use std::alloc::{AllocError, Global};
@@ -165,17 +165,23 @@ fn log<'a>(alloc: Global) -> Arg<'a>
     flag(alloc, "log").help("Write a line to standard error of each request, answer and post")
 }
 
-/// `NAME --listen ADDR [--base URL] --journal F [--turns N] [--log]`.
-fn serving<'a>(alloc: Global, name: &'a str, about: &'a str) -> Result<Command<'a>, AllocError>
-    ensures { IfOk result (IsCommand (serving name.entry.now)) }
+/// `NAME --listen ADDR [--base URL] --journal F [--turns N]`.
+fn silent<'a>(alloc: Global, name: &'a str, about: &'a str) -> Result<Command<'a>, AllocError>
+    ensures { IfOk result (IsCommand (silent name.entry.now)) }
 {
     Command::new(alloc, name)
         .about(about)
         .arg(listen(alloc))?
         .arg(base(alloc))?
         .arg(journal(alloc))?
-        .arg(turns(alloc))?
-        .arg(log(alloc))
+        .arg(turns(alloc))
+}
+
+/// With `--log`.
+fn serving<'a>(alloc: Global, name: &'a str, about: &'a str) -> Result<Command<'a>, AllocError>
+    ensures { IfOk result (IsCommand (serving name.entry.now)) }
+{
+    silent(alloc, name, about)?.arg(log(alloc))
 }
 
 /// `coordinator ..`.
