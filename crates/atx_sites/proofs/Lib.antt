@@ -4,6 +4,7 @@ pub mod Comings
 pub mod DepartureLists
 pub mod FilePieces
 pub mod Leavings
+pub mod Pausing
 pub mod Pushes
 pub mod Receipts
 pub mod Sendings

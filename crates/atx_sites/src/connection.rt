@@ -4,7 +4,7 @@ ghost use Rattle.std.specs.Prelude.{◌≡◌, ◌≤◌, ◌<◌, ◌+◌, ◌+
 ghost use Rattle.std.specs.Io.{ReadsAtMost, WritesAtMost};
 ghost use Rattle.system_calls.specs.Calls.{Number};
 ghost use Rattle.atx_sites.specs.Arrivals.{ConnectionCame, Gives, HasCome, HaveCome, Keeps, KeepsOn, ServedCame};
-ghost use Rattle.atx_sites.specs.LinkCalls.{IfListens, Later, Sends, number_at};
+ghost use Rattle.atx_sites.specs.LinkCalls.{IfListens, Later, Looks, Pauses, Polls, Sends, number_at};
 
 use crate::arriving::{Arriving, Rest, read_on};
 use crate::deadlines::{earlier, millis_until};
@@ -16,6 +16,9 @@ use std::io::{self, ErrorKind};
 use std::os::fd::AsRawFd;
 use std::time::Duration;
 use system_calls::system::System;
+
+/// The milliseconds of a pause where the system, or this process, lacks something.
+const PAUSE_MILLIS: i32 = 100;
 
 /// A connection that is served: what was read of it, how much of that was given, what of the answer the system hasn't taken,
 /// and whether some of the answer was lost.
@@ -108,7 +111,44 @@ fn go_on<S: System>(
     Ok(())
 }
 
+/// Waits for so long, and for nothing.
+fn pause<S: System>(system: &mut S)
+    ensures { Pauses (S.calls system.old) (S.calls system.new) }
+{
+    system.poll(&mut [], PAUSE_MILLIS);
+}
+
+/// Waits for nothing, unless the turn of one may come.
+#[tactic(auto, using(crate::proofs::Pausing::no_pause, crate::proofs::Pausing::pauses_later))]
+fn pause_unless<S: System>(system: &mut S, is_ready: bool)
+    ensures { Later (S.calls system.old) (S.calls system.new) }
+{
+    if !is_ready {
+        pause(system);
+    }
+}
+
+/// Polls. Whether that didn't fail.
+fn polls<S: System>(system: &mut S, asks: &mut [pollfd], millis: i32) -> bool
+    ensures { Polls asks.old millis asks.new result (S.calls system.old) (S.calls system.new) }
+{
+    system.poll(asks, millis) >= 0
+}
+
+/// Polls. What failed is tried again once, and where that fails too it pauses.
+fn look<S: System>(system: &mut S, asks: &mut [pollfd], millis: i32)
+    ensures { Looks asks.old millis asks.new (S.calls system.old) (S.calls system.new) }
+{
+    if polls(system, asks, millis) {
+        return;
+    }
+    if !polls(system, asks, millis) {
+        pause(system);
+    }
+}
+
 /// Waits until something can be done, or a time is over, and does it. Where the turn of one may come, nothing is waited for.
+/// Want of memory passes: it pauses then, unless the turn of one may come.
 #[tactic(auto, using(crate::proofs::Comings::as_late, crate::proofs::Comings::late_by, crate::proofs::Comings::later_still, crate::proofs::Comings::have_still))]
 fn wait_once<S: System>(
     system: &mut S,
@@ -121,16 +161,18 @@ fn wait_once<S: System>(
     ensures came { HaveCome S.Stream.raw_fd (S.Listener.raw_fd listener.now) (S.calls system.old) waiting.old.arriving.items → HaveCome S.Stream.raw_fd (S.Listener.raw_fd listener.now) (S.calls system.new) waiting.new.arriving.items }
     ensures later { Later (S.calls system.old) (S.calls system.new) }
 {
+    let is_ready = waiting.has_ready(now);
     let mut asks = Vec::new(waiting.alloc());
     let Ok(arriving) = asked_of(listener, waiting, departures, &mut asks) else {
-        return Err(ErrorKind::OutOfMemory.into());
+        pause_unless(system, is_ready);
+        return Ok(());
     };
-    let until = if waiting.has_ready(now) {
+    let until = if is_ready {
         Some(now)
     } else {
         earlier(until, earlier(waiting.earliest(), departures.earliest()))
     };
-    system.poll(asks.as_mut_slice(), millis_until(now, until));
+    look(system, asks.as_mut_slice(), millis_until(now, until));
     match system.monotonic() {
         Ok(later) => {
             let found = &asks[..arriving.min(asks.len())];
@@ -364,15 +406,20 @@ pub(crate) fn send<S: System>(
     sent
 }
 
-/// Hands over a connection, whose answer goes out behind this call.
+/// Hands over a connection, whose answer goes out behind this call. Where some of that was lost, it is closed at once.
 fn end<S: System>(system: &mut S, departures: &mut Departures<S::Stream>, served: Served<S::Stream>)
     ensures later { Later (S.calls system.old) (S.calls system.new) }
 {
     let Served {
         arriving,
         unsent,
+        is_cut,
         ..
     } = served;
+    if is_cut {
+        departures::count_one(&mut departures.lost);
+        return;
+    }
     let Arriving { stream, .. } = arriving;
     departures::answer(system, departures, stream, unsent, 0);
 }
@@ -392,6 +439,24 @@ pub(crate) fn close<S: System>(
     }
 }
 
+/// Waits until something that leaves can go on, or the time of one is over. Want of memory passes.
+fn wait_leaving<S: System>(
+    system: &mut S,
+    alloc: Global,
+    departures: &Departures<S::Stream>,
+    now: Duration,
+) {
+    let mut asks = Vec::new(alloc);
+    match departures.asks(&mut asks) {
+        Ok(()) => look(
+            system,
+            asks.as_mut_slice(),
+            millis_until(now, departures.earliest()),
+        ),
+        Err(AllocError) => pause(system),
+    }
+}
+
 /// Lets go out what still leaves, each until its own time is over.
 pub(crate) fn leave<S: System>(
     system: &mut S,
@@ -404,12 +469,7 @@ pub(crate) fn leave<S: System>(
         if departures.is_empty() {
             return Ok(());
         }
-        let mut asks = Vec::new(alloc);
-        departures.asks(&mut asks)?;
-        system.poll(
-            asks.as_mut_slice(),
-            millis_until(now, departures.earliest()),
-        );
+        wait_leaving(system, alloc, departures, now);
     }
     Ok(())
 }

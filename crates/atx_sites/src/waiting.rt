@@ -142,13 +142,13 @@ impl<C: AsRawFd + Drop> Waiting<C> {
         }
     }
 
-    /// The bytes of all.
-    fn bytes(&self) -> usize {
+    /// How many bytes more may be read aside of all.
+    fn room(&self) -> usize {
         let mut bytes = 0usize;
         for arriving in self.arriving.iter() {
             bytes = bytes.saturating_add(arriving.bytes.len());
         }
-        bytes
+        MOST_BYTES.saturating_sub(bytes)
     }
 
     /// Makes room for one more: where too many wait, the oldest whose turn can't come yet is closed. Whether there is some.
@@ -173,7 +173,7 @@ impl<C: AsRawFd + Drop> Waiting<C> {
     fn keep(&mut self, arriving: Arriving<C>, now: Duration)
         ensures { (number : C → Number) (listener : Number) (calls : Calls) → HaveCome number listener calls self.old.arriving.items → HasCome number listener calls arriving → HaveCome number listener calls self.new.arriving.items }
     {
-        if self.has_room(now) && self.bytes().saturating_add(arriving.bytes.len()) <= MOST_BYTES {
+        if self.has_room(now) && arriving.bytes.len() <= self.room() {
             let _ = self.arriving.push(arriving);
         }
     }
@@ -215,19 +215,18 @@ fn place_of_coming<C>(arrivals: &[Arriving<C>], now: Duration) -> Option<usize>
     None
 }
 
-/// Reads aside what came on one of them. Where all have too many bytes then, it is closed. Whether it is still there.
+/// Reads aside what came on one of them. Where more of it is to come, and all have as many bytes as they may, it is closed.
+/// Whether it is still there.
 #[tactic(auto, using(crate::proofs::Comings::have_still, crate::proofs::Comings::have_set, crate::proofs::Comings::has_taken, crate::proofs::Comings::have_removed))]
 fn read_at<S: System>(system: &mut S, waiting: &mut Waiting<S::Stream>, place: usize) -> bool
     requires { place < length waiting.old.arriving.items }
     ensures came { (listener : Number) → HaveCome S.Stream.raw_fd listener (S.calls system.old) waiting.old.arriving.items → HaveCome S.Stream.raw_fd listener (S.calls system.new) waiting.new.arriving.items }
     ensures later { Later (S.calls system.old) (S.calls system.new) }
 {
-    read_aside(
-        system,
-        &mut waiting.arriving[place],
-        waiting.places.as_mut_slice(),
-    );
-    if waiting.bytes() <= MOST_BYTES {
+    let room = waiting.room();
+    let arriving = &mut waiting.arriving[place];
+    read_aside(system, arriving, waiting.places.as_mut_slice(), room);
+    if waiting.room() > 0 || !waiting.arriving[place].is_coming() {
         return true;
     }
     drop(waiting.arriving.remove(place));
@@ -290,7 +289,8 @@ fn begin<S: System>(
 {
     let ends = now.saturating_add(Duration::from_secs(REQUEST_SECONDS));
     let mut arriving = Arriving::new(waiting.alloc, stream, ends);
-    read_aside(system, &mut arriving, waiting.places.as_mut_slice());
+    let room = waiting.room();
+    read_aside(system, &mut arriving, waiting.places.as_mut_slice(), room);
     waiting.keep(arriving, now);
 }
 

@@ -284,7 +284,7 @@ fn crowds(alloc: Global) -> Result<bool, AllocError> {
     let full = site.post("10.0.0.1", 80, POST).is_err();
     let other = site.post("10.0.0.2", 80, POST).is_ok() && site.now() == 1_000_000;
     site.leave();
-    let lost = site.lost() == MOST_TO_ONE && site.now() == 1_005_000;
+    let lost = site.lost() == MOST_TO_ONE + 1 && site.now() == 1_005_000;
     drop(site);
     let arrived = match system.world().peers().last() {
         Some(peer) => peer.took() == POST,
