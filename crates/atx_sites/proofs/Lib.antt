@@ -10,4 +10,5 @@ pub mod Receipts
 pub mod Sendings
 pub mod Servings
 pub mod SilentMachines
+pub mod Tellings
 pub mod Turns

@@ -1,10 +1,13 @@
 //! The listener of a node, the connections that are read aside, and the one that is served.
 
-ghost use Rattle.std.specs.Prelude.{◌≡◌, ◌≤◌, ◌<◌, ◌+◌, ◌++◌, ◌^◌, None, Some, IfOk, IsErr, OnErr, OnOk, drop, length, take};
+ghost use Rattle.std.specs.Prelude.{◌≡◌, ◌≤◌, ◌<◌, ◌+◌, ◌++◌, ◌^◌, None, Some, IfErr, IfOk, IsErr, OnErr, OnOk, drop, length, take};
 ghost use Rattle.std.specs.Io.{ReadsAtMost, WritesAtMost};
+ghost use Rattle.std.specs.IoError.{raw_os_error};
 ghost use Rattle.system_calls.specs.Calls.{Number};
 ghost use Rattle.atx_sites.specs.Arrivals.{ConnectionCame, Gives, HasCome, HaveCome, Keeps, KeepsOn, ServedCame};
 ghost use Rattle.atx_sites.specs.LinkCalls.{IfListens, Later, Looks, Pauses, Polls, Sends, number_at};
+ghost use Rattle.atx_sites.specs.Failures.{Ends};
+ghost use Rattle.atx_sites.specs.declared.troubles.Step.TheVariants as steps;
 
 use crate::arriving::{Arriving, Rest, read_on};
 use crate::deadlines::{earlier, millis_until};
@@ -53,6 +56,7 @@ impl<L: Drop, C: AsRawFd + Drop> Connection<L, C> {
 }
 
 /// Listens at an address, in place of the one before. What was open is closed.
+#[tactic(auto, using(crate::proofs::Tellings::ended_listen))]
 pub(crate) fn listen<S: System>(
     system: &mut S,
     connection: &mut Connection<S::Listener, S::Stream>,
@@ -60,11 +64,12 @@ pub(crate) fn listen<S: System>(
 ) -> io::Result<()>
     ensures calls { IfListens address.now result (number_at S.Listener.raw_fd connection.new.listener) (S.calls system.old) (S.calls system.new) }
     ensures came { ConnectionCame S.Stream.raw_fd S.Listener.raw_fd (S.calls system.new) connection.new }
+    ensures fault { IfErr result (λ e. Ends None steps.Listen e (S.calls system.new)) }
 {
     connection.listener = None;
     connection.served = None;
     let Ok(()) = connection.waiting.begin() else {
-        return Err(ErrorKind::OutOfMemory.into());
+        return Err(io::Error::new(ErrorKind::OutOfMemory, "there is no memory"));
     };
     match system.listen(address) {
         Ok(listener) => {
@@ -100,6 +105,7 @@ fn go_on<S: System>(
 ) -> io::Result<()>
     ensures came { HaveCome S.Stream.raw_fd (S.Listener.raw_fd listener.now) (S.calls system.old) waiting.old.arriving.items → HaveCome S.Stream.raw_fd (S.Listener.raw_fd listener.now) (S.calls system.new) waiting.new.arriving.items }
     ensures later { Later (S.calls system.old) (S.calls system.new) }
+    ensures fault { IfErr result (λ e. Ends (S.Listener.raw_fd listener.now) steps.Accept e (S.calls system.new)) }
 {
     let Some((first, others)) = found.split_first() else {
         return Ok(());
@@ -149,7 +155,7 @@ fn look<S: System>(system: &mut S, asks: &mut [pollfd], millis: i32)
 
 /// Waits until something can be done, or a time is over, and does it. Where the turn of one may come, nothing is waited for.
 /// Want of memory passes: it pauses then, unless the turn of one may come.
-#[tactic(auto, using(crate::proofs::Comings::as_late, crate::proofs::Comings::late_by, crate::proofs::Comings::later_still, crate::proofs::Comings::have_still))]
+#[tactic(auto, using(crate::proofs::Comings::as_late, crate::proofs::Comings::late_by, crate::proofs::Comings::later_still, crate::proofs::Comings::have_still, crate::proofs::Tellings::ended_clock))]
 fn wait_once<S: System>(
     system: &mut S,
     waiting: &mut Waiting<S::Stream>,
@@ -160,6 +166,7 @@ fn wait_once<S: System>(
 ) -> io::Result<()>
     ensures came { HaveCome S.Stream.raw_fd (S.Listener.raw_fd listener.now) (S.calls system.old) waiting.old.arriving.items → HaveCome S.Stream.raw_fd (S.Listener.raw_fd listener.now) (S.calls system.new) waiting.new.arriving.items }
     ensures later { Later (S.calls system.old) (S.calls system.new) }
+    ensures fault { IfErr result (λ e. Ends (S.Listener.raw_fd listener.now) steps.Accept e (S.calls system.new)) }
 {
     let is_ready = waiting.has_ready(now);
     let mut asks = Vec::new(waiting.alloc());
@@ -188,6 +195,7 @@ fn advance<S: System>(
     departures: &mut Departures<S::Stream>,
 ) -> io::Result<Duration>
     ensures later { Later (S.calls system.old) (S.calls system.new) }
+    ensures fault { (listener : Number) → IfErr result (λ e. Ends listener steps.Accept e (S.calls system.new)) }
 {
     match system.monotonic() {
         Ok(now) => {
@@ -213,6 +221,13 @@ fn is_over(until: Option<Duration>, now: Duration) -> bool {
     }
 }
 
+/// The error where nobody came in time.
+fn nobody() -> io::Error
+    ensures { raw_os_error result ≡ None }
+{
+    io::Error::new(ErrorKind::TimedOut, "nobody came in time")
+}
+
 /// Waits for a connection whose turn may come, for so long where a time is given. Meanwhile what leaves goes on.
 #[tactic(auto, using(crate::proofs::Comings::as_late, crate::proofs::Comings::later_still, crate::proofs::Comings::have_still))]
 fn wait<S: System>(
@@ -225,6 +240,7 @@ fn wait<S: System>(
     ensures came { HaveCome S.Stream.raw_fd (S.Listener.raw_fd listener.now) (S.calls system.old) waiting.old.arriving.items → HaveCome S.Stream.raw_fd (S.Listener.raw_fd listener.now) (S.calls system.new) waiting.new.arriving.items }
     ensures later { Later (S.calls system.old) (S.calls system.new) }
     ensures taken { HaveCome S.Stream.raw_fd (S.Listener.raw_fd listener.now) (S.calls system.old) waiting.old.arriving.items → IfOk result (HasCome S.Stream.raw_fd (S.Listener.raw_fd listener.now) (S.calls system.new)) }
+    ensures fault { IfErr result (λ e. Ends (S.Listener.raw_fd listener.now) steps.Accept e (S.calls system.new)) }
 {
     let mut until = None;
     'waits: for _ in 0..u64::MAX {
@@ -240,10 +256,10 @@ fn wait<S: System>(
             return Ok(ready);
         }
         if is_over(until, now) {
-            return Err(ErrorKind::TimedOut.into());
+            return Err(nobody());
         }
     }
-    Err(ErrorKind::TimedOut.into())
+    Err(nobody())
 }
 
 /// Waits for a connection whose turn may come: its whole request is there, it ended or failed, or its time is over. One that
@@ -256,10 +272,11 @@ pub(crate) fn take<S: System>(
 ) -> io::Result<()>
     ensures shut { connection.old.listener ≡ None → IsErr result }
     ensures came { ConnectionCame S.Stream.raw_fd S.Listener.raw_fd (S.calls system.old) connection.old → ConnectionCame S.Stream.raw_fd S.Listener.raw_fd (S.calls system.new) connection.new }
+    ensures fault { IfErr result (λ e. Ends (number_at S.Listener.raw_fd connection.old.listener) steps.Accept e (S.calls system.new)) }
 {
     close(system, connection, departures);
     let Some(listener) = &connection.listener else {
-        return Err(ErrorKind::NotConnected.into());
+        return Err(io::Error::new(ErrorKind::NotConnected, "nothing listens"));
     };
     match wait(system, &mut connection.waiting, departures, listener, every) {
         Ok(arriving) => {

@@ -1,9 +1,11 @@
 //! Connections that are read aside, each until its turn.
 
-ghost use Rattle.std.specs.Prelude.{◌<◌, [], ◌≡◌, IfSome, length};
+ghost use Rattle.std.specs.Prelude.{◌<◌, [], ◌≡◌, IfErr, IfSome, length};
 ghost use Rattle.system_calls.specs.Calls.{Calls, Number};
 ghost use Rattle.atx_sites.specs.Arrivals.{HasCome, HaveCome, IfCame};
 ghost use Rattle.atx_sites.specs.LinkCalls.{Came, Later};
+ghost use Rattle.atx_sites.specs.Failures.{Ends};
+ghost use Rattle.atx_sites.specs.declared.troubles.Step.TheVariants as steps;
 
 use crate::arriving::{Arriving, asked, read_aside};
 use crate::deadlines::earlier;
@@ -255,7 +257,7 @@ pub(crate) fn read_found<S: System>(
 }
 
 /// Accepts a connection, if one has come. Where the system lacks something, accepting pauses.
-#[tactic(auto, using(crate::proofs::Comings::came_first, crate::proofs::Comings::late_by))]
+#[tactic(auto, using(crate::proofs::Comings::came_first, crate::proofs::Comings::late_by, crate::proofs::Tellings::ended_accept))]
 fn accept_one<S: System>(
     system: &mut S,
     listener: &S::Listener,
@@ -264,6 +266,7 @@ fn accept_one<S: System>(
 ) -> io::Result<Option<S::Stream>>
     ensures came { IfCame S.Stream.raw_fd (S.Listener.raw_fd listener.now) (S.calls system.new) result }
     ensures later { Later (S.calls system.old) (S.calls system.new) }
+    ensures fault { IfErr result (λ e. Ends (S.Listener.raw_fd listener.now) steps.Accept e (S.calls system.new)) }
 {
     match system.accept(listener) {
         Ok((stream, _)) => Ok(Some(stream)),
@@ -304,6 +307,7 @@ pub(crate) fn accept_all<S: System>(
 ) -> io::Result<()>
     ensures came { HaveCome S.Stream.raw_fd (S.Listener.raw_fd listener.now) (S.calls system.old) waiting.old.arriving.items → HaveCome S.Stream.raw_fd (S.Listener.raw_fd listener.now) (S.calls system.new) waiting.new.arriving.items }
     ensures later { Later (S.calls system.old) (S.calls system.new) }
+    ensures fault { IfErr result (λ e. Ends (S.Listener.raw_fd listener.now) steps.Accept e (S.calls system.new)) }
 {
     waiting.pause = None;
     'accepted: for _ in 0..MOST {
