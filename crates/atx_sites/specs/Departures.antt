@@ -99,16 +99,16 @@ abbrev pub Closes : {T E : Type 0} → Result T E → ℕ → ℕ → Type 0
 Closes result all taken = IfOut (not (is_err result)) all taken
 
 -- it stands behind the others, or it is closed
-abbrev pub Joins : {C : Type 0} → Result (Unit {0}) Error → Outgoing C → List (Outgoing C) → List (Outgoing C) → Type 0
+abbrev pub Joins : {C E : Type 0} → Result (Unit {0}) E → Outgoing C → List (Outgoing C) → List (Outgoing C) → Type 0
 Joins result outgoing others all =
     ((is_err result ≡ false) × (all ≡ others ++ outgoing ∷ [])) ⊎ ((all ≡ others) × Closes result (length outgoing.bytes.items) outgoing.done)
 
 -- one more went on as far as it could, and stands behind the others unless it is closed
-abbrev pub Starts : {C : Type 0} → (C → Number) → Outgoing C → Calls → Result (Unit {0}) Error → List (Outgoing C) → List (Outgoing C) → Calls → Type 0
+abbrev pub Starts : {C E : Type 0} → (C → Number) → Outgoing C → Calls → Result (Unit {0}) E → List (Outgoing C) → List (Outgoing C) → Calls → Type 0
 Starts {C = C} number before old result others all new = (after : Outgoing C) × Went number before old after new × Joins result after others all
 
 -- these bytes are posted to one of these addresses, where one more has room
-abbrev pub PostsTo : {C : Type 0} → (C → Number) → List SocketAddr → List ℕ → List (Outgoing C) → Calls → Result (Unit {0}) Error → List (Outgoing C) → Calls → Type 0
+abbrev pub PostsTo : {C E : Type 0} → (C → Number) → List SocketAddr → List ℕ → List (Outgoing C) → Calls → Result (Unit {0}) E → List (Outgoing C) → Calls → Type 0
 PostsTo {C = C} number addresses bytes before old result after new =
     (others : List (Outgoing C)) × IsPart before others
     × ((IsErr result × (after ≡ others) × Unreached addresses old new)
@@ -120,10 +120,14 @@ pub data Looks (host : List ℕ) (port : ℕ) (old : Calls) : Calls → Type 0 w
   clock : {mid new : Calls} (got : Answer Duration) → Looks host port old mid → new ≡ then (Monotonic got) mid → Looks host port old new
   resolves : {mid new : Calls} (got : Answer (List SocketAddr)) → Looks host port old mid → new ≡ then (Resolve host port got) mid → Looks host port old new
 
--- these bytes are posted, where the addresses of a host are known or looked up
-abbrev pub Posts : {C : Type 0} → (C → Number) → ℕ → List ℕ → List (Outgoing C) → Calls → Result (Unit {0}) Error → List (Outgoing C) → Calls → Type 0
-Posts number port bytes before old result after new =
-    (host : List ℕ) × (addresses : List SocketAddr) × (looked : Calls) × Looks host port old looked × PostsTo number addresses bytes before looked result after new
+-- a host without the brackets of an IPv6 address, or as it is
+abbrev pub IsBare : List ℕ → List ℕ → Type 0
+IsBare host bare = (bare ≡ host) ⊎ (host ≡ 91 ∷ bare ++ 93 ∷ [])
+
+-- these bytes are posted, where the addresses of that host are known or it is looked up, at that port
+abbrev pub Posts : {C E : Type 0} → (C → Number) → List ℕ → ℕ → List ℕ → List (Outgoing C) → Calls → Result (Unit {0}) E → List (Outgoing C) → Calls → Type 0
+Posts number host port bytes before old result after new =
+    (bare : List ℕ) × IsBare host bare × (addresses : List SocketAddr) × (looked : Calls) × Looks bare port old looked × PostsTo number addresses bytes before looked result after new
 
 -- what is left of an answer is taken over with its connection, where one more has room
 abbrev pub Answers : {C : Type 0} → (C → Number) → C → Vec ℕ Global → ℕ → List (Outgoing C) → Calls → Result (Unit {0}) Error → List (Outgoing C) → Calls → Type 0

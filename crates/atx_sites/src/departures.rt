@@ -3,7 +3,7 @@
 ghost use Rattle.std.specs.Prelude.{◌≡◌, ◌<◌, ◌+◌, List, Result, IfSome, filter, is_err, length, not};
 ghost use Rattle.std.specs.declared.io.Error.{Error};
 ghost use Rattle.site_model.specs.Counts.{capped};
-ghost use Rattle.atx_sites.specs.Departures.{Advances, Answers, IfBegun, IsPart, Posts, PostsTo, Starts, WentAt, is_over};
+ghost use Rattle.atx_sites.specs.Departures.{Advances, Answers, IfBegun, IsPart, Posts, PostsTo, Starts, WentAt, is_lost, is_over};
 ghost use Rattle.atx_sites.specs.Disks.{Tallied};
 ghost use Rattle.atx_sites.specs.declared.outgoing.Outgoing.{Outgoing};
 
@@ -264,7 +264,7 @@ fn begin_post<S: System>(
     port: u16,
     bytes: &[u8],
 ) -> io::Result<()>
-    ensures posts { Posts S.Stream.raw_fd port bytes.now departures.old.leaving.items (S.calls system.old) result departures.new.leaving.items (S.calls system.new) }
+    ensures posts { Posts S.Stream.raw_fd host.now port bytes.now departures.old.leaving.items (S.calls system.old) result departures.new.leaving.items (S.calls system.new) }
     ensures same { departures.new.lost ≡ departures.old.lost }
 {
     let Ok(addresses) = resolved_names::addresses(system, &mut departures.names, host, port) else {
@@ -288,7 +288,7 @@ pub(crate) fn post<S: System>(
     port: u16,
     bytes: &[u8],
 ) -> io::Result<()>
-    ensures posts { Posts S.Stream.raw_fd port bytes.now departures.old.leaving.items (S.calls system.old) result departures.new.leaving.items (S.calls system.new) }
+    ensures posts { Posts S.Stream.raw_fd host.now port bytes.now departures.old.leaving.items (S.calls system.old) result departures.new.leaving.items (S.calls system.new) }
     ensures lost { Tallied departures.old.lost departures.new.lost result }
 {
     let posted = begin_post(system, departures, host, port, bytes);
@@ -339,10 +339,12 @@ pub(crate) fn answer<S: System>(
 }
 
 /// How many were lost.
-fn count_lost<C: Drop>(leaving: &[Outgoing<C>]) -> u64 {
+fn count_lost<C: Drop>(leaving: &[Outgoing<C>]) -> u64
+    ensures { result ≡ capped (length (filter is_lost leaving.now)) }
+{
     let mut count: u64 = 0;
-    for outgoing in leaving.iter() {
-        if outgoing.is_lost() {
+    'places: for place in 0..leaving.len() {
+        if leaving[place].is_lost() {
             count = count.saturating_add(1);
         }
     }
@@ -387,7 +389,8 @@ pub(crate) fn advance<S: System>(
     now: Duration,
 )
     ensures { (went : List (Outgoing S.Stream)) × Advances S.Stream.raw_fd (S.calls system.old) departures.old.leaving.items went (S.calls system.new)
-        × (departures.new.leaving.items ≡ filter (λ o. not (is_over o)) went) }
+        × (departures.new.leaving.items ≡ filter (λ o. not (is_over o)) went)
+        × (departures.new.lost ≡ capped (departures.old.lost + length (filter is_lost went))) }
 {
     go_each(system, &mut departures.leaving, now);
     departures.lost = departures

@@ -7,6 +7,7 @@ ghost use Rattle.site_model.specs.Told.{Files as Files_told, Is, file_of};
 ghost use Rattle.site_model.specs.Told.Call.{Post, Send};
 ghost use Rattle.site_model.specs.declared.site.Taken.TheVariants.{Opened};
 ghost use Rattle.atx_sites.specs.Arrivals.{Gives, KeepsOn};
+ghost use Rattle.atx_sites.specs.Departures.{Posts};
 ghost use Rattle.atx_sites.specs.Disks.{Tallied, file_at, other_at};
 ghost use Rattle.atx_sites.specs.FileCalls.{Raises, Reads, Sized, Syncs, Writes};
 ghost use Rattle.atx_sites.specs.Files.{is_lost, number_of};
@@ -87,7 +88,8 @@ impl<S: System + Drop> NodeSite<S> {
         }
     }
 
-    /// How many posts were lost behind their calls: the peer didn't accept a connection, or didn't take all bytes in time.
+    /// How many answers and posts were lost: there was no room for them, the peer accepted no connection, or not all of their
+    /// bytes were taken in time.
     pub fn lost(&self) -> u64
         ensures { result ≡ self.now.departures.lost }
     {
@@ -292,6 +294,8 @@ impl<S: System + Drop> Site for NodeSite<S> {
 
     #[tactic(auto, using(crate::proofs::SilentMachines::gave))]
     fn post(&mut self, host: &str, port: u16, bytes: &[u8]) -> Result<(), Failed>
+        ensures posts { Posts S.Stream.raw_fd host.now port bytes.now self.old.departures.leaving.items (S.calls self.old.system) result self.new.departures.leaving.items (S.calls self.new.system) }
+        ensures lost { Tallied self.old.departures.lost self.new.departures.lost result }
         ensures tallied { Tallied self.old.link self.new.link result }
         ensures call { Gave (Post host.now port bytes.now) result (told_with self.old.disk self.old.accept self.old.receive self.old.link self.old.taken self.old.attached.names) (told_with self.new.disk self.new.accept self.new.receive self.new.link self.new.taken self.new.attached.names) }
     {
