@@ -1,5 +1,6 @@
 pub mod Afterwards
 pub mod Attachings
+pub mod Bounds
 pub mod Comings
 pub mod DepartureLists
 pub mod FilePieces

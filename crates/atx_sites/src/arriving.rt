@@ -1,6 +1,6 @@
 //! One connection that is read aside.
 
-ghost use Rattle.std.specs.Prelude.{◌≡◌, []};
+ghost use Rattle.std.specs.Prelude.{◌≡◌, ◌≤◌, ◌+◌, [], length};
 ghost use Rattle.system_calls.specs.Calls.{Number};
 ghost use Rattle.atx_sites.specs.Arrivals.{Grows, HasCome};
 ghost use Rattle.atx_sites.specs.LinkCalls.{Later};
@@ -93,6 +93,7 @@ fn read_once<S: System>(system: &mut S, arriving: &mut Arriving<S::Stream>, most
     ensures came { (listener : Number) → HasCome S.Stream.raw_fd listener (S.calls system.old) arriving.old → HasCome S.Stream.raw_fd listener (S.calls system.new) arriving.new }
     ensures grows { Grows arriving.old.bytes.items arriving.new.bytes.items }
     ensures later { Later (S.calls system.old) (S.calls system.new) }
+    ensures most { length arriving.new.bytes.items ≤ length arriving.old.bytes.items + most }
 {
     let mut buf = [0u8; PIECE_BYTES];
     let piece = &mut buf[..most.min(PIECE_BYTES)];
@@ -121,6 +122,8 @@ pub(crate) fn read_aside<S: System>(
 )
     ensures came { (listener : Number) → HasCome S.Stream.raw_fd listener (S.calls system.old) arriving.old → HasCome S.Stream.raw_fd listener (S.calls system.new) arriving.new }
     ensures later { Later (S.calls system.old) (S.calls system.new) }
+    ensures most { length arriving.new.bytes.items ≤ length arriving.old.bytes.items + more }
+    ensures bound { length arriving.old.bytes.items ≤ 131_072 → length arriving.new.bytes.items ≤ 131_072 }
 {
     let most = MOST_BYTES.min(arriving.bytes.len().saturating_add(more));
     'reads: for _ in 0..u16::MAX {

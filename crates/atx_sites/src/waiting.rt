@@ -1,8 +1,9 @@
 //! Connections that are read aside, each until its turn.
 
-ghost use Rattle.std.specs.Prelude.{◌<◌, [], ◌≡◌, IfErr, IfSome, length};
+ghost use Rattle.std.specs.Prelude.{◌<◌, ◌≤◌, ◌-◌, [], true, ◌≡◌, IfErr, IfSome, length};
+ghost use Rattle.std.specs.List.{sum_by};
 ghost use Rattle.system_calls.specs.Calls.{Calls, Number};
-ghost use Rattle.atx_sites.specs.Arrivals.{HasCome, HaveCome, IfCame};
+ghost use Rattle.atx_sites.specs.Arrivals.{Bounded, HasCome, HaveCome, IfCame, size_of};
 ghost use Rattle.atx_sites.specs.LinkCalls.{Came, Later};
 ghost use Rattle.atx_sites.specs.Failures.{Ends};
 ghost use Rattle.atx_sites.specs.declared.troubles.Step.TheVariants as steps;
@@ -145,10 +146,12 @@ impl<C: AsRawFd + Drop> Waiting<C> {
     }
 
     /// How many bytes more may be read aside of all.
-    fn room(&self) -> usize {
+    fn room(&self) -> usize
+        ensures { result ≡ 67_108_864 - sum_by size_of self.now.arriving.items }
+    {
         let mut bytes = 0usize;
-        for arriving in self.arriving.iter() {
-            bytes = bytes.saturating_add(arriving.bytes.len());
+        'places: for place in 0..self.arriving.len() {
+            bytes = bytes.saturating_add(self.arriving[place].bytes.len());
         }
         MOST_BYTES.saturating_sub(bytes)
     }
@@ -156,7 +159,9 @@ impl<C: AsRawFd + Drop> Waiting<C> {
     /// Makes room for one more: where too many wait, the oldest whose turn can't come yet is closed. Whether there is some.
     #[tactic(auto, using(crate::proofs::Comings::have_removed))]
     fn has_room(&mut self, now: Duration) -> bool
-        ensures { (number : C → Number) (listener : Number) (calls : Calls) → HaveCome number listener calls self.old.arriving.items → HaveCome number listener calls self.new.arriving.items }
+        ensures came { (number : C → Number) (listener : Number) (calls : Calls) → HaveCome number listener calls self.old.arriving.items → HaveCome number listener calls self.new.arriving.items }
+        ensures bounded { Bounded self.old.arriving.items → Bounded self.new.arriving.items }
+        ensures room { Bounded self.old.arriving.items → result ≡ true → length self.new.arriving.items < 1_024 }
     {
         if self.arriving.len() < MOST {
             return true;
@@ -173,7 +178,8 @@ impl<C: AsRawFd + Drop> Waiting<C> {
     /// Keeps one more, where there is room and memory for it, and where all have not too many bytes then.
     #[tactic(auto, using(crate::proofs::Comings::have_pushed))]
     fn keep(&mut self, arriving: Arriving<C>, now: Duration)
-        ensures { (number : C → Number) (listener : Number) (calls : Calls) → HaveCome number listener calls self.old.arriving.items → HasCome number listener calls arriving → HaveCome number listener calls self.new.arriving.items }
+        ensures came { (number : C → Number) (listener : Number) (calls : Calls) → HaveCome number listener calls self.old.arriving.items → HasCome number listener calls arriving → HaveCome number listener calls self.new.arriving.items }
+        ensures bounded { Bounded self.old.arriving.items → size_of arriving ≤ 131_072 → Bounded self.new.arriving.items }
     {
         if self.has_room(now) && arriving.bytes.len() <= self.room() {
             let _ = self.arriving.push(arriving);
@@ -224,6 +230,7 @@ fn read_at<S: System>(system: &mut S, waiting: &mut Waiting<S::Stream>, place: u
     requires { place < length waiting.old.arriving.items }
     ensures came { (listener : Number) → HaveCome S.Stream.raw_fd listener (S.calls system.old) waiting.old.arriving.items → HaveCome S.Stream.raw_fd listener (S.calls system.new) waiting.new.arriving.items }
     ensures later { Later (S.calls system.old) (S.calls system.new) }
+    ensures bounded { Bounded waiting.old.arriving.items → Bounded waiting.new.arriving.items }
 {
     let room = waiting.room();
     let arriving = &mut waiting.arriving[place];
@@ -244,6 +251,7 @@ pub(crate) fn read_found<S: System>(
 )
     ensures came { (listener : Number) → HaveCome S.Stream.raw_fd listener (S.calls system.old) waiting.old.arriving.items → HaveCome S.Stream.raw_fd listener (S.calls system.new) waiting.new.arriving.items }
     ensures later { Later (S.calls system.old) (S.calls system.new) }
+    ensures bounded { Bounded waiting.old.arriving.items → Bounded waiting.new.arriving.items }
 {
     let mut place = 0;
     'found: for ask in found {
@@ -289,6 +297,7 @@ fn begin<S: System>(
 )
     ensures came { (listener : Number) → Came listener (S.Stream.raw_fd stream) [] (S.calls system.old) → HaveCome S.Stream.raw_fd listener (S.calls system.old) waiting.old.arriving.items → HaveCome S.Stream.raw_fd listener (S.calls system.new) waiting.new.arriving.items }
     ensures later { Later (S.calls system.old) (S.calls system.new) }
+    ensures bounded { Bounded waiting.old.arriving.items → Bounded waiting.new.arriving.items }
 {
     let ends = now.saturating_add(Duration::from_secs(REQUEST_SECONDS));
     let mut arriving = Arriving::new(waiting.alloc, stream, ends);
@@ -308,6 +317,7 @@ pub(crate) fn accept_all<S: System>(
     ensures came { HaveCome S.Stream.raw_fd (S.Listener.raw_fd listener.now) (S.calls system.old) waiting.old.arriving.items → HaveCome S.Stream.raw_fd (S.Listener.raw_fd listener.now) (S.calls system.new) waiting.new.arriving.items }
     ensures later { Later (S.calls system.old) (S.calls system.new) }
     ensures fault { IfErr result (λ e. Ends (S.Listener.raw_fd listener.now) steps.Accept e (S.calls system.new)) }
+    ensures bounded { Bounded waiting.old.arriving.items → Bounded waiting.new.arriving.items }
 {
     waiting.pause = None;
     'accepted: for _ in 0..MOST {
