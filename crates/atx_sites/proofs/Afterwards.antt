@@ -1,6 +1,7 @@
 -- The calls of connections that leave are calls later.
-use Rattle.std.proofs.Common.{ℕ, List, Vec, ◌∙◌, inl, inr, refl}
+use Rattle.std.proofs.Common.{ℕ, List, Result, Vec, ◌∙◌, inl, inr, refl}
 use Rattle.std.specs.declared.alloc.Global.{Global}
+use Rattle.std.specs.declared.io.Error.{Error}
 use Rattle.std.specs.declared.net.SocketAddr.{SocketAddr}
 use Rattle.system_calls.specs.Calls.{Calls, Number}
 use Rattle.atx_sites.specs.Departures.{Advances, Answers, Goes, Leaves}
@@ -32,8 +33,8 @@ advances_later number old befores afters new (none_go a b e) = none e
 advances_later number old befores afters new (next {mid = mid} before after h w a b) =
     later_still old mid new (advances_later number old _ _ mid h) (leaves_later _ _ _ _ mid _ _ new w.0)
 
-pub answers_later : {C : Type 0} (number : C → Number) (stream : C) (bytes : Vec ℕ Global) (sent : ℕ) (before : List (Outgoing C)) (old : Calls) (after : List (Outgoing C)) (new : Calls)
-    → Answers number stream bytes sent before old after new → Later old new
-answers_later number stream bytes sent before old after new (others, part, mid, (got, e), inl (a, b)) = more _ (none refl) (b ∙ e)
-answers_later number stream bytes sent before old after new (others, part, mid, (got, e), inr (begun, result, s, b, d, (went, w, joins))) =
+pub answers_later : {C : Type 0} (number : C → Number) (stream : C) (bytes : Vec ℕ Global) (sent : ℕ) (before : List (Outgoing C)) (old : Calls) (result : Result (Unit {0}) Error) (after : List (Outgoing C)) (new : Calls)
+    → Answers number stream bytes sent before old result after new → Later old new
+answers_later number stream bytes sent before old result after new (others, part, mid, (got, e), inl (a, b, closes)) = more _ (none refl) (b ∙ e)
+answers_later number stream bytes sent before old result after new (others, part, mid, (got, e), inr (begun, s, b, d, (went, w, joins))) =
     later_still old mid new (more _ (none refl) e) (leaves_later _ _ _ _ mid _ _ new w.0)

@@ -1,12 +1,15 @@
 pub mod Afterwards
 pub mod Attachings
+pub mod Bounds
 pub mod Comings
 pub mod DepartureLists
 pub mod FilePieces
 pub mod Leavings
+pub mod Pausing
 pub mod Pushes
 pub mod Receipts
 pub mod Sendings
 pub mod Servings
 pub mod SilentMachines
+pub mod Tellings
 pub mod Turns

@@ -1,5 +1,6 @@
 -- What is known of connections that are read aside.
-use Rattle.std.specs.Prelude.{ℕ, List, Bool, Option, Some, None, Result, Ok, Err, All, [], ◌++◌, ◌≡◌, ◌+◌, ◌⊎◌, true, false, length, take, drop, is_err}
+use Rattle.std.specs.Prelude.{ℕ, List, Bool, Option, Some, None, Result, Ok, Err, All, [], ◌++◌, ◌≡◌, ◌≤◌, ◌+◌, ◌⊎◌, true, false, length, take, drop, is_err}
+use Rattle.std.specs.List.{sum_by}
 use Rattle.system_calls.specs.Calls.{Calls, Number}
 use Rattle.atx_sites.specs.LinkCalls.{Came, Sending, number_at}
 use Rattle.atx_sites.specs.declared.arriving.Arriving.{Arriving}
@@ -13,6 +14,13 @@ HasCome number listener calls arriving = Came listener (number arriving.stream) 
 -- each of them did
 abbrev pub HaveCome : {C : Type 0} → (C → Number) → Number → Calls → List (Arriving C) → Type 0
 HaveCome number listener calls arrivals = All (HasCome number listener calls) arrivals
+
+abbrev pub size_of : {C : Type 0} → Arriving C → ℕ
+size_of arriving = length arriving.bytes.items
+
+-- they are 1,024 at most, with 67,108,864 bytes in all, and each has 131,072 at most
+abbrev pub Bounded : {C : Type 0} → List (Arriving C) → Type 0
+Bounded arrivals = (length arrivals ≤ 1_024) × (sum_by size_of arrivals ≤ 67_108_864) × All (λ a. size_of a ≤ 131_072) arrivals
 
 -- one that was accepted, if any
 abbrev pub IfCame : {C E : Type 0} → (C → Number) → Number → Calls → Result (Option C) E → Type 0

@@ -1,5 +1,5 @@
 -- Which calls of the system are made on connections with bytes that leave.
-use Rattle.std.specs.Prelude.{ℕ, Bool, true, false, List, Option, Vec, Some, None, Result, Ok, Err, IsErr, [], ◌∷◌, ◌++◌, ◌≡◌, ◌⊎◌, ◌+◌, ◌≤◌, length, drop, slice_index_or, slice_set, remove, Contains}
+use Rattle.std.specs.Prelude.{ℕ, Bool, true, false, List, Option, Vec, Some, None, Result, Ok, Err, IsErr, [], ◌∷◌, ◌++◌, ◌≡◌, ◌⊎◌, ◌+◌, ◌≤◌, ◌<◌, length, drop, is_err, not, slice_index_or, slice_set, remove, Contains}
 use Rattle.std.specs.declared.io.Error.{Error}
 use Rattle.std.specs.declared.net.SocketAddr.{SocketAddr}
 use Rattle.std.specs.declared.time.Duration.{Duration}
@@ -89,17 +89,26 @@ IfBegun number addresses bytes (Some begun) old new =
     Begins number addresses (Some begun.stream) old new × (begun.addresses.items ≡ addresses) × (begun.bytes.items ≡ bytes) × (begun.done ≡ 0)
 IfBegun number addresses bytes None old new = Unreached addresses old new
 
--- it stands behind the others; or it is closed, and where that is no failure all its bytes were taken
-abbrev pub Joins : {C : Type 0} → Result (Unit {0}) Error → Outgoing C → List (Outgoing C) → List (Outgoing C) → Type 0
-Joins (Ok done) outgoing others all = (all ≡ others ++ outgoing ∷ []) ⊎ ((all ≡ others) × (length outgoing.bytes.items ≤ outgoing.done))
-Joins (Err fault) outgoing others all = all ≡ others
+-- whether so many bytes were taken of all
+abbrev pub IfOut : Bool → ℕ → ℕ → Type 0
+IfOut true all taken = all ≤ taken
+IfOut false all taken = taken < all
+
+-- one of which so many bytes were taken is closed: that is a failure where there are more
+abbrev pub Closes : {T E : Type 0} → Result T E → ℕ → ℕ → Type 0
+Closes result all taken = IfOut (not (is_err result)) all taken
+
+-- it stands behind the others, or it is closed
+abbrev pub Joins : {C E : Type 0} → Result (Unit {0}) E → Outgoing C → List (Outgoing C) → List (Outgoing C) → Type 0
+Joins result outgoing others all =
+    ((is_err result ≡ false) × (all ≡ others ++ outgoing ∷ [])) ⊎ ((all ≡ others) × Closes result (length outgoing.bytes.items) outgoing.done)
 
 -- one more went on as far as it could, and stands behind the others unless it is closed
-abbrev pub Starts : {C : Type 0} → (C → Number) → Outgoing C → Calls → Result (Unit {0}) Error → List (Outgoing C) → List (Outgoing C) → Calls → Type 0
+abbrev pub Starts : {C E : Type 0} → (C → Number) → Outgoing C → Calls → Result (Unit {0}) E → List (Outgoing C) → List (Outgoing C) → Calls → Type 0
 Starts {C = C} number before old result others all new = (after : Outgoing C) × Went number before old after new × Joins result after others all
 
 -- these bytes are posted to one of these addresses, where one more has room
-abbrev pub PostsTo : {C : Type 0} → (C → Number) → List SocketAddr → List ℕ → List (Outgoing C) → Calls → Result (Unit {0}) Error → List (Outgoing C) → Calls → Type 0
+abbrev pub PostsTo : {C E : Type 0} → (C → Number) → List SocketAddr → List ℕ → List (Outgoing C) → Calls → Result (Unit {0}) E → List (Outgoing C) → Calls → Type 0
 PostsTo {C = C} number addresses bytes before old result after new =
     (others : List (Outgoing C)) × IsPart before others
     × ((IsErr result × (after ≡ others) × Unreached addresses old new)
@@ -111,14 +120,18 @@ pub data Looks (host : List ℕ) (port : ℕ) (old : Calls) : Calls → Type 0 w
   clock : {mid new : Calls} (got : Answer Duration) → Looks host port old mid → new ≡ then (Monotonic got) mid → Looks host port old new
   resolves : {mid new : Calls} (got : Answer (List SocketAddr)) → Looks host port old mid → new ≡ then (Resolve host port got) mid → Looks host port old new
 
--- these bytes are posted, where the addresses of a host are known or looked up
-abbrev pub Posts : {C : Type 0} → (C → Number) → ℕ → List ℕ → List (Outgoing C) → Calls → Result (Unit {0}) Error → List (Outgoing C) → Calls → Type 0
-Posts number port bytes before old result after new =
-    (host : List ℕ) × (addresses : List SocketAddr) × (looked : Calls) × Looks host port old looked × PostsTo number addresses bytes before looked result after new
+-- a host without the brackets of an IPv6 address, or as it is
+abbrev pub IsBare : List ℕ → List ℕ → Type 0
+IsBare host bare = (bare ≡ host) ⊎ (host ≡ 91 ∷ bare ++ 93 ∷ [])
+
+-- these bytes are posted, where the addresses of that host are known or it is looked up, at that port
+abbrev pub Posts : {C E : Type 0} → (C → Number) → List ℕ → ℕ → List ℕ → List (Outgoing C) → Calls → Result (Unit {0}) E → List (Outgoing C) → Calls → Type 0
+Posts number host port bytes before old result after new =
+    (bare : List ℕ) × IsBare host bare × (addresses : List SocketAddr) × (looked : Calls) × Looks bare port old looked × PostsTo number addresses bytes before looked result after new
 
 -- what is left of an answer is taken over with its connection, where one more has room
-abbrev pub Answers : {C : Type 0} → (C → Number) → C → Vec ℕ Global → ℕ → List (Outgoing C) → Calls → List (Outgoing C) → Calls → Type 0
-Answers {C = C} number stream bytes sent before old after new =
+abbrev pub Answers : {C : Type 0} → (C → Number) → C → Vec ℕ Global → ℕ → List (Outgoing C) → Calls → Result (Unit {0}) Error → List (Outgoing C) → Calls → Type 0
+Answers {C = C} number stream bytes sent before old result after new =
     (others : List (Outgoing C)) × IsPart before others × (mid : Calls) × ((got : Answer Duration) × (mid ≡ then (Monotonic got) old))
-    × (((after ≡ others) × (new ≡ mid))
-    ⊎ ((begun : Outgoing C) × (result : Result (Unit {0}) Error) × (begun.stream ≡ stream) × (begun.bytes ≡ bytes) × (begun.done ≡ sent) × Starts number begun mid result others after new))
+    × (((after ≡ others) × (new ≡ mid) × Closes result (length bytes.items) sent)
+    ⊎ ((begun : Outgoing C) × (begun.stream ≡ stream) × (begun.bytes ≡ bytes) × (begun.done ≡ sent) × Starts number begun mid result others after new))

@@ -39,15 +39,15 @@ abbrev pub IfOpened : {F : Type 0} → (F → Number) → List ℕ → Answer F 
 IfOpened number name (Ok file) old new = Opens name (number file) old new
 IfOpened number name (Err fault) old new = Unit {0}
 
-abbrev pub IfTaken : Number → Answer (Unit {0}) → Calls → Calls → Type 0
+abbrev pub IfTaken : {E : Type 0} → Number → Result (Unit {0}) E → Calls → Calls → Type 0
 IfTaken file (Ok done) old new = Takes file old new
 IfTaken file (Err fault) old new = Unit {0}
 
-abbrev pub IfAlone : {F : Type 0} → (F → Number) → List ℕ → Answer (Held F) → Calls → Calls → Type 0
+abbrev pub IfAlone : {F E : Type 0} → (F → Number) → List ℕ → Result (Held F) E → Calls → Calls → Type 0
 IfAlone number name (Ok held) old new = OpensAlone name (number held.file) old new
 IfAlone number name (Err fault) old new = Unit {0}
 
-abbrev pub IfSynced : List ℕ → Answer (Unit {0}) → Calls → Calls → Type 0
+abbrev pub IfSynced : {E : Type 0} → List ℕ → Result (Unit {0}) E → Calls → Calls → Type 0
 IfSynced name (Ok done) old new = SyncsFolder name old new
 IfSynced name (Err fault) old new = Unit {0}
 
@@ -57,7 +57,7 @@ OpensBoth journal first second old new =
     (one two : Calls) × OpensAlone journal first old one × OpensAlone (journal ++ codes ".1") second one two
     × ((folder : List ℕ) × IsFolderOf journal folder × SyncsFolder folder two new)
 
-abbrev pub IfBoth : {F : Type 0} → (F → Number) → List ℕ → Answer (Held F × Held F) → Calls → Calls → Type 0
+abbrev pub IfBoth : {F E : Type 0} → (F → Number) → List ℕ → Result (Held F × Held F) E → Calls → Calls → Type 0
 IfBoth number journal (Ok both) old new = OpensBoth journal (number both.0.file) (number both.1.file) old new
 IfBoth number journal (Err fault) old new = Unit {0}
 

@@ -1,9 +1,11 @@
 -- Which calls of the system a machine makes on its listener and its connections.
-use Rattle.std.specs.Prelude.{ℕ, List, Option, Some, None, Result, Ok, Err, [], ◌++◌, ◌≡◌, ◌+◌, drop}
+use Rattle.std.specs.Prelude.{ℕ, ℤ, pos, Bool, List, Option, Some, None, Result, Ok, Err, [], ◌++◌, ◌≡◌, ◌+◌, ◌⊎◌, true, false, drop}
+use Rattle.std.specs.Int.Signed.{le_z}
 use Rattle.std.specs.declared.io.Error.{Error}
 use Rattle.std.specs.declared.net.SocketAddr.{SocketAddr}
 use Rattle.system_calls.specs.Calls.{Call, Calls, Number, then}
-use Rattle.system_calls.specs.Calls.Call.{Accept, Listen, Read, Write}
+use Rattle.system_calls.specs.Calls.Call.{Accept, Listen, Poll, Read, Write}
+use Rattle.libc.specs.declared.types.pollfd.{pollfd}
 
 abbrev pub number_at : {L : Type 0} → (L → Number) → Option L → Number
 number_at number (Some listener) = number listener
@@ -21,6 +23,21 @@ IfListens address (Err fault) listener old new = Unit {0}
 pub data Later (old : Calls) : Calls → Type 0 where
   none : {new : Calls} → new ≡ old → Later old new
   more : {mid new : Calls} (call : Call) → Later old mid → new ≡ then call mid → Later old new
+
+-- poll waits for nothing, 100 milliseconds
+abbrev pub Pauses : Calls → Calls → Type 0
+Pauses old new = (found : List pollfd) × (count : ℤ) × (new ≡ then (Poll [] (pos 100) found count) old)
+
+-- poll is asked, and whether it didn't fail
+abbrev pub Polls : List pollfd → ℤ → List pollfd → Bool → Calls → Calls → Type 0
+Polls asks millis found done old new = (count : ℤ) × (new ≡ then (Poll asks millis found count) old) × (le_z (pos 0) count ≡ done)
+
+-- where it fails it is asked again, and where it fails again it pauses
+abbrev pub Looks : List pollfd → ℤ → List pollfd → Calls → Calls → Type 0
+Looks asks millis found old new =
+    Polls asks millis found true old new
+    ⊎ ((looked : List pollfd) × (mid : Calls) × Polls asks millis looked false old mid
+    × (Polls looked millis found true mid new ⊎ ((late : Calls) × Polls looked millis found false mid late × Pauses late new)))
 
 -- a connection that accept on the listener gave, and the bytes that reads of it gave since, in order, each once. Other calls may
 -- stand between

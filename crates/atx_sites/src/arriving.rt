@@ -1,6 +1,6 @@
 //! One connection that is read aside.
 
-ghost use Rattle.std.specs.Prelude.{◌≡◌, []};
+ghost use Rattle.std.specs.Prelude.{◌≡◌, ◌≤◌, ◌+◌, [], length};
 ghost use Rattle.system_calls.specs.Calls.{Number};
 ghost use Rattle.atx_sites.specs.Arrivals.{Grows, HasCome};
 ghost use Rattle.atx_sites.specs.LinkCalls.{Later};
@@ -72,7 +72,7 @@ impl<C> Arriving<C> {
     }
 
     /// Whether more of it is to be read aside.
-    fn is_coming(&self) -> bool {
+    pub(crate) fn is_coming(&self) -> bool {
         self.rest == Rest::More && self.stage != Stage::Whole && self.bytes.len() < MOST_BYTES
     }
 
@@ -87,17 +87,19 @@ impl<C> Arriving<C> {
     }
 }
 
-/// Reads once what has come, and says how many bytes.
+/// Reads once what has come, at most so many bytes and at most 8,192, and says how many.
 #[tactic(auto, using(crate::proofs::Comings::came_read, crate::proofs::Comings::came_by, crate::proofs::Comings::late_by, crate::proofs::Comings::grown, crate::proofs::Comings::no_more))]
-pub(crate) fn read_once<S: System>(system: &mut S, arriving: &mut Arriving<S::Stream>) -> usize
+fn read_once<S: System>(system: &mut S, arriving: &mut Arriving<S::Stream>, most: usize) -> usize
     ensures came { (listener : Number) → HasCome S.Stream.raw_fd listener (S.calls system.old) arriving.old → HasCome S.Stream.raw_fd listener (S.calls system.new) arriving.new }
     ensures grows { Grows arriving.old.bytes.items arriving.new.bytes.items }
     ensures later { Later (S.calls system.old) (S.calls system.new) }
+    ensures most { length arriving.new.bytes.items ≤ length arriving.old.bytes.items + most }
 {
     let mut buf = [0u8; PIECE_BYTES];
-    match system.read(&arriving.stream, &mut buf) {
+    let piece = &mut buf[..most.min(PIECE_BYTES)];
+    match system.read(&arriving.stream, piece) {
         Ok(0) => arriving.rest = Rest::Ended,
-        Ok(n) => match arriving.bytes.extend_from_slice(&buf[..n]) {
+        Ok(n) => match arriving.bytes.extend_from_slice(&piece[..n]) {
             Ok(()) => return n,
             Err(_) => arriving.rest = Rest::Failed,
         },
@@ -110,21 +112,26 @@ pub(crate) fn read_once<S: System>(system: &mut S, arriving: &mut Arriving<S::St
     0
 }
 
-/// Reads what has come, until its request is whole.
+/// Reads what has come, until its request is whole, and at most so many bytes more.
 #[tactic(auto, using(crate::proofs::Comings::as_late, crate::proofs::Comings::later_still))]
 pub(crate) fn read_aside<S: System>(
     system: &mut S,
     arriving: &mut Arriving<S::Stream>,
     places: &mut [HeaderSpan],
+    more: usize,
 )
     ensures came { (listener : Number) → HasCome S.Stream.raw_fd listener (S.calls system.old) arriving.old → HasCome S.Stream.raw_fd listener (S.calls system.new) arriving.new }
     ensures later { Later (S.calls system.old) (S.calls system.new) }
+    ensures most { length arriving.new.bytes.items ≤ length arriving.old.bytes.items + more }
+    ensures bound { length arriving.old.bytes.items ≤ 131_072 → length arriving.new.bytes.items ≤ 131_072 }
 {
+    let most = MOST_BYTES.min(arriving.bytes.len().saturating_add(more));
     'reads: for _ in 0..u16::MAX {
-        if !arriving.is_coming() {
+        let had = arriving.bytes.len();
+        if !arriving.is_coming() || had >= most {
             return;
         }
-        let n = read_once(system, arriving);
+        let n = read_once(system, arriving, most - had);
         arriving.stage = come_to(arriving.stage, arriving.bytes.as_slice(), places);
         if n < PIECE_BYTES {
             return;
@@ -148,7 +155,7 @@ pub(crate) fn read_on<S: System>(
             return Ok(());
         }
         let millis = left(system, arriving.ends)?;
-        if read_once(system, arriving) == 0 && arriving.rest == Rest::More {
+        if read_once(system, arriving, PIECE_BYTES) == 0 && arriving.rest == Rest::More {
             let mut asks = [asked(arriving.stream.as_raw_fd())];
             system.poll(&mut asks, millis);
         }

@@ -1,10 +1,13 @@
 //! The listener of a node, the connections that are read aside, and the one that is served.
 
-ghost use Rattle.std.specs.Prelude.{◌≡◌, ◌≤◌, ◌<◌, ◌+◌, ◌++◌, ◌^◌, None, Some, IfOk, IsErr, OnErr, OnOk, drop, length, take};
+ghost use Rattle.std.specs.Prelude.{◌≡◌, ◌≤◌, ◌<◌, ◌+◌, ◌++◌, ◌^◌, None, Some, IfErr, IfOk, IsErr, OnErr, OnOk, drop, length, take};
 ghost use Rattle.std.specs.Io.{ReadsAtMost, WritesAtMost};
+ghost use Rattle.std.specs.IoError.{raw_os_error};
 ghost use Rattle.system_calls.specs.Calls.{Number};
 ghost use Rattle.atx_sites.specs.Arrivals.{ConnectionCame, Gives, HasCome, HaveCome, Keeps, KeepsOn, ServedCame};
-ghost use Rattle.atx_sites.specs.LinkCalls.{IfListens, Later, Sends, number_at};
+ghost use Rattle.atx_sites.specs.LinkCalls.{IfListens, Later, Looks, Pauses, Polls, Sends, number_at};
+ghost use Rattle.atx_sites.specs.Failures.{Ends};
+ghost use Rattle.atx_sites.specs.declared.troubles.Step.TheVariants as steps;
 
 use crate::arriving::{Arriving, Rest, read_on};
 use crate::deadlines::{earlier, millis_until};
@@ -16,6 +19,9 @@ use std::io::{self, ErrorKind};
 use std::os::fd::AsRawFd;
 use std::time::Duration;
 use system_calls::system::System;
+
+/// The milliseconds of a pause where the system, or this process, lacks something.
+const PAUSE_MILLIS: i32 = 100;
 
 /// A connection that is served: what was read of it, how much of that was given, what of the answer the system hasn't taken,
 /// and whether some of the answer was lost.
@@ -50,6 +56,7 @@ impl<L: Drop, C: AsRawFd + Drop> Connection<L, C> {
 }
 
 /// Listens at an address, in place of the one before. What was open is closed.
+#[tactic(auto, using(crate::proofs::Tellings::ended_listen))]
 pub(crate) fn listen<S: System>(
     system: &mut S,
     connection: &mut Connection<S::Listener, S::Stream>,
@@ -57,11 +64,12 @@ pub(crate) fn listen<S: System>(
 ) -> io::Result<()>
     ensures calls { IfListens address.now result (number_at S.Listener.raw_fd connection.new.listener) (S.calls system.old) (S.calls system.new) }
     ensures came { ConnectionCame S.Stream.raw_fd S.Listener.raw_fd (S.calls system.new) connection.new }
+    ensures fault { IfErr result (λ e. Ends None steps.Listen e (S.calls system.new)) }
 {
     connection.listener = None;
     connection.served = None;
     let Ok(()) = connection.waiting.begin() else {
-        return Err(ErrorKind::OutOfMemory.into());
+        return Err(io::Error::new(ErrorKind::OutOfMemory, "there is no memory"));
     };
     match system.listen(address) {
         Ok(listener) => {
@@ -97,6 +105,7 @@ fn go_on<S: System>(
 ) -> io::Result<()>
     ensures came { HaveCome S.Stream.raw_fd (S.Listener.raw_fd listener.now) (S.calls system.old) waiting.old.arriving.items → HaveCome S.Stream.raw_fd (S.Listener.raw_fd listener.now) (S.calls system.new) waiting.new.arriving.items }
     ensures later { Later (S.calls system.old) (S.calls system.new) }
+    ensures fault { IfErr result (λ e. Ends (S.Listener.raw_fd listener.now) steps.Accept e (S.calls system.new)) }
 {
     let Some((first, others)) = found.split_first() else {
         return Ok(());
@@ -108,8 +117,45 @@ fn go_on<S: System>(
     Ok(())
 }
 
+/// Waits for so long, and for nothing.
+fn pause<S: System>(system: &mut S)
+    ensures { Pauses (S.calls system.old) (S.calls system.new) }
+{
+    system.poll(&mut [], PAUSE_MILLIS);
+}
+
+/// Waits for nothing, unless the turn of one may come.
+#[tactic(auto, using(crate::proofs::Pausing::no_pause, crate::proofs::Pausing::pauses_later))]
+fn pause_unless<S: System>(system: &mut S, is_ready: bool)
+    ensures { Later (S.calls system.old) (S.calls system.new) }
+{
+    if !is_ready {
+        pause(system);
+    }
+}
+
+/// Polls. Whether that didn't fail.
+fn polls<S: System>(system: &mut S, asks: &mut [pollfd], millis: i32) -> bool
+    ensures { Polls asks.old millis asks.new result (S.calls system.old) (S.calls system.new) }
+{
+    system.poll(asks, millis) >= 0
+}
+
+/// Polls. What failed is tried again once, and where that fails too it pauses.
+fn look<S: System>(system: &mut S, asks: &mut [pollfd], millis: i32)
+    ensures { Looks asks.old millis asks.new (S.calls system.old) (S.calls system.new) }
+{
+    if polls(system, asks, millis) {
+        return;
+    }
+    if !polls(system, asks, millis) {
+        pause(system);
+    }
+}
+
 /// Waits until something can be done, or a time is over, and does it. Where the turn of one may come, nothing is waited for.
-#[tactic(auto, using(crate::proofs::Comings::as_late, crate::proofs::Comings::late_by, crate::proofs::Comings::later_still, crate::proofs::Comings::have_still))]
+/// Want of memory passes: it pauses then, unless the turn of one may come.
+#[tactic(auto, using(crate::proofs::Comings::as_late, crate::proofs::Comings::late_by, crate::proofs::Comings::later_still, crate::proofs::Comings::have_still, crate::proofs::Tellings::ended_clock))]
 fn wait_once<S: System>(
     system: &mut S,
     waiting: &mut Waiting<S::Stream>,
@@ -120,17 +166,20 @@ fn wait_once<S: System>(
 ) -> io::Result<()>
     ensures came { HaveCome S.Stream.raw_fd (S.Listener.raw_fd listener.now) (S.calls system.old) waiting.old.arriving.items → HaveCome S.Stream.raw_fd (S.Listener.raw_fd listener.now) (S.calls system.new) waiting.new.arriving.items }
     ensures later { Later (S.calls system.old) (S.calls system.new) }
+    ensures fault { IfErr result (λ e. Ends (S.Listener.raw_fd listener.now) steps.Accept e (S.calls system.new)) }
 {
+    let is_ready = waiting.has_ready(now);
     let mut asks = Vec::new(waiting.alloc());
     let Ok(arriving) = asked_of(listener, waiting, departures, &mut asks) else {
-        return Err(ErrorKind::OutOfMemory.into());
+        pause_unless(system, is_ready);
+        return Ok(());
     };
-    let until = if waiting.has_ready(now) {
+    let until = if is_ready {
         Some(now)
     } else {
         earlier(until, earlier(waiting.earliest(), departures.earliest()))
     };
-    system.poll(asks.as_mut_slice(), millis_until(now, until));
+    look(system, asks.as_mut_slice(), millis_until(now, until));
     match system.monotonic() {
         Ok(later) => {
             let found = &asks[..arriving.min(asks.len())];
@@ -146,6 +195,7 @@ fn advance<S: System>(
     departures: &mut Departures<S::Stream>,
 ) -> io::Result<Duration>
     ensures later { Later (S.calls system.old) (S.calls system.new) }
+    ensures fault { (listener : Number) → IfErr result (λ e. Ends listener steps.Accept e (S.calls system.new)) }
 {
     match system.monotonic() {
         Ok(now) => {
@@ -171,6 +221,13 @@ fn is_over(until: Option<Duration>, now: Duration) -> bool {
     }
 }
 
+/// The error where nobody came in time.
+fn nobody() -> io::Error
+    ensures { raw_os_error result ≡ None }
+{
+    io::Error::new(ErrorKind::TimedOut, "nobody came in time")
+}
+
 /// Waits for a connection whose turn may come, for so long where a time is given. Meanwhile what leaves goes on.
 #[tactic(auto, using(crate::proofs::Comings::as_late, crate::proofs::Comings::later_still, crate::proofs::Comings::have_still))]
 fn wait<S: System>(
@@ -183,6 +240,7 @@ fn wait<S: System>(
     ensures came { HaveCome S.Stream.raw_fd (S.Listener.raw_fd listener.now) (S.calls system.old) waiting.old.arriving.items → HaveCome S.Stream.raw_fd (S.Listener.raw_fd listener.now) (S.calls system.new) waiting.new.arriving.items }
     ensures later { Later (S.calls system.old) (S.calls system.new) }
     ensures taken { HaveCome S.Stream.raw_fd (S.Listener.raw_fd listener.now) (S.calls system.old) waiting.old.arriving.items → IfOk result (HasCome S.Stream.raw_fd (S.Listener.raw_fd listener.now) (S.calls system.new)) }
+    ensures fault { IfErr result (λ e. Ends (S.Listener.raw_fd listener.now) steps.Accept e (S.calls system.new)) }
 {
     let mut until = None;
     'waits: for _ in 0..u64::MAX {
@@ -198,10 +256,10 @@ fn wait<S: System>(
             return Ok(ready);
         }
         if is_over(until, now) {
-            return Err(ErrorKind::TimedOut.into());
+            return Err(nobody());
         }
     }
-    Err(ErrorKind::TimedOut.into())
+    Err(nobody())
 }
 
 /// Waits for a connection whose turn may come: its whole request is there, it ended or failed, or its time is over. One that
@@ -214,10 +272,11 @@ pub(crate) fn take<S: System>(
 ) -> io::Result<()>
     ensures shut { connection.old.listener ≡ None → IsErr result }
     ensures came { ConnectionCame S.Stream.raw_fd S.Listener.raw_fd (S.calls system.old) connection.old → ConnectionCame S.Stream.raw_fd S.Listener.raw_fd (S.calls system.new) connection.new }
+    ensures fault { IfErr result (λ e. Ends (number_at S.Listener.raw_fd connection.old.listener) steps.Accept e (S.calls system.new)) }
 {
     close(system, connection, departures);
     let Some(listener) = &connection.listener else {
-        return Err(ErrorKind::NotConnected.into());
+        return Err(io::Error::new(ErrorKind::NotConnected, "nothing listens"));
     };
     match wait(system, &mut connection.waiting, departures, listener, every) {
         Ok(arriving) => {
@@ -364,15 +423,20 @@ pub(crate) fn send<S: System>(
     sent
 }
 
-/// Hands over a connection, whose answer goes out behind this call.
+/// Hands over a connection, whose answer goes out behind this call. Where some of that was lost, it is closed at once.
 fn end<S: System>(system: &mut S, departures: &mut Departures<S::Stream>, served: Served<S::Stream>)
     ensures later { Later (S.calls system.old) (S.calls system.new) }
 {
     let Served {
         arriving,
         unsent,
+        is_cut,
         ..
     } = served;
+    if is_cut {
+        departures::count_one(&mut departures.lost);
+        return;
+    }
     let Arriving { stream, .. } = arriving;
     departures::answer(system, departures, stream, unsent, 0);
 }
@@ -392,6 +456,24 @@ pub(crate) fn close<S: System>(
     }
 }
 
+/// Waits until something that leaves can go on, or the time of one is over. Want of memory passes.
+fn wait_leaving<S: System>(
+    system: &mut S,
+    alloc: Global,
+    departures: &Departures<S::Stream>,
+    now: Duration,
+) {
+    let mut asks = Vec::new(alloc);
+    match departures.asks(&mut asks) {
+        Ok(()) => look(
+            system,
+            asks.as_mut_slice(),
+            millis_until(now, departures.earliest()),
+        ),
+        Err(AllocError) => pause(system),
+    }
+}
+
 /// Lets go out what still leaves, each until its own time is over.
 pub(crate) fn leave<S: System>(
     system: &mut S,
@@ -404,12 +486,7 @@ pub(crate) fn leave<S: System>(
         if departures.is_empty() {
             return Ok(());
         }
-        let mut asks = Vec::new(alloc);
-        departures.asks(&mut asks)?;
-        system.poll(
-            asks.as_mut_slice(),
-            millis_until(now, departures.earliest()),
-        );
+        wait_leaving(system, alloc, departures, now);
     }
     Ok(())
 }

@@ -1,10 +1,13 @@
 //! Connections with bytes that leave: posts, and answers that weren't wholly out.
 
-ghost use Rattle.std.specs.Prelude.{◌≡◌, ◌<◌, List, IfSome, filter, length, not};
-ghost use Rattle.atx_sites.specs.Departures.{Advances, Answers, IfBegun, IsPart, Posts, PostsTo, Starts, WentAt, is_over};
+ghost use Rattle.std.specs.Prelude.{◌≡◌, ◌<◌, ◌+◌, List, Result, IfSome, filter, is_err, length, not};
+ghost use Rattle.std.specs.declared.io.Error.{Error};
+ghost use Rattle.site_model.specs.Counts.{capped};
+ghost use Rattle.atx_sites.specs.Departures.{Advances, Answers, IfBegun, IsPart, Posts, PostsTo, Starts, WentAt, is_lost, is_over};
+ghost use Rattle.atx_sites.specs.Disks.{Tallied};
 ghost use Rattle.atx_sites.specs.declared.outgoing.Outgoing.{Outgoing};
 
-use crate::outgoing::{self, Outgoing};
+use crate::outgoing::{self, Outgoing, is_taken};
 use crate::resolved_names::{self, ResolvedNames};
 use libc::net::{POLLIN, POLLOUT};
 use libc::types::pollfd;
@@ -33,7 +36,7 @@ pub struct Departures<C> {
     alloc: Global,
     pub(crate) leaving: Vec<Outgoing<C>>,
     names: ResolvedNames,
-    /// How many were given up, or failed, before the system had all their bytes.
+    /// How many answers and posts there were of which the system didn't take all bytes, and won't.
     pub(crate) lost: u64,
 }
 
@@ -88,6 +91,13 @@ fn asked<C: AsRawFd + Drop>(outgoing: &Outgoing<C>) -> pollfd {
         },
         revents: 0,
     }
+}
+
+/// One more.
+pub(crate) fn count_one(lost: &mut u64)
+    ensures { lost.new ≡ capped (lost.old + 1) }
+{
+    *lost = lost.saturating_add(1);
 }
 
 /// The bytes of all of them.
@@ -197,6 +207,16 @@ fn begun<S: System>(
     }
 }
 
+/// What becomes of one that is closed: no failure where all its bytes are out.
+fn if_out(is_out: bool, fault: ErrorKind) -> io::Result<()>
+    ensures { is_err result ≡ not is_out }
+{
+    if is_out {
+        return Ok(());
+    }
+    Err(fault.into())
+}
+
 /// Lets one more go on, and puts it behind the others unless nothing is left to do. It fails where that was lost.
 fn start<S: System>(
     system: &mut S,
@@ -207,14 +227,12 @@ fn start<S: System>(
     ensures { Starts S.Stream.raw_fd outgoing (S.calls system.old) result leaving.old.items leaving.new.items (S.calls system.new) }
 {
     outgoing::go(system, &mut outgoing, now);
+    let is_out = outgoing.is_out();
     if outgoing.is_over() {
-        if outgoing.is_out() {
-            return Ok(());
-        }
-        return Err(ErrorKind::HostUnreachable.into());
+        return if_out(is_out, ErrorKind::HostUnreachable);
     }
     if leaving.push(outgoing).is_err() {
-        return Err(ErrorKind::OutOfMemory.into());
+        return if_out(is_out, ErrorKind::OutOfMemory);
     }
     Ok(())
 }
@@ -238,16 +256,16 @@ fn post_to<S: System>(
     }
 }
 
-/// Posts bytes to a host, and waits for nobody but for a name to be looked up. After Ok the bytes are out or leave. After a
-/// failure the peer may have a beginning of them.
-pub(crate) fn post<S: System>(
+/// Posts bytes to a host.
+fn begin_post<S: System>(
     system: &mut S,
     departures: &mut Departures<S::Stream>,
     host: &str,
     port: u16,
     bytes: &[u8],
 ) -> io::Result<()>
-    ensures { Posts S.Stream.raw_fd port bytes.now departures.old.leaving.items (S.calls system.old) result departures.new.leaving.items (S.calls system.new) }
+    ensures posts { Posts S.Stream.raw_fd host.now port bytes.now departures.old.leaving.items (S.calls system.old) result departures.new.leaving.items (S.calls system.new) }
+    ensures same { departures.new.lost ≡ departures.old.lost }
 {
     let Ok(addresses) = resolved_names::addresses(system, &mut departures.names, host, port) else {
         return Err(ErrorKind::HostUnreachable.into());
@@ -261,8 +279,50 @@ pub(crate) fn post<S: System>(
     post_to(system, &mut departures.leaving, addresses, bytes, now)
 }
 
+/// Posts bytes to a host, and waits for nobody but for a name to be looked up. After Ok the bytes are out or leave. After a
+/// failure the peer may have a beginning of them, and one more is lost.
+pub(crate) fn post<S: System>(
+    system: &mut S,
+    departures: &mut Departures<S::Stream>,
+    host: &str,
+    port: u16,
+    bytes: &[u8],
+) -> io::Result<()>
+    ensures posts { Posts S.Stream.raw_fd host.now port bytes.now departures.old.leaving.items (S.calls system.old) result departures.new.leaving.items (S.calls system.new) }
+    ensures lost { Tallied departures.old.lost departures.new.lost result }
+{
+    let posted = begin_post(system, departures, host, port, bytes);
+    if posted.is_err() {
+        count_one(&mut departures.lost);
+    }
+    posted
+}
+
 /// Takes over a connection with its answer, of which the system took `done` bytes. It is closed behind the answer. Where there
-/// is no room, it is closed at once.
+/// is no room, it is closed at once, and that fails unless all bytes were taken.
+fn hand_over<S: System>(
+    system: &mut S,
+    departures: &mut Departures<S::Stream>,
+    stream: S::Stream,
+    bytes: Vec<u8>,
+    done: usize,
+) -> io::Result<()>
+    ensures answers { Answers S.Stream.raw_fd stream bytes done departures.old.leaving.items (S.calls system.old) result departures.new.leaving.items (S.calls system.new) }
+    ensures same { departures.new.lost ≡ departures.old.lost }
+{
+    let is_out = is_taken(&bytes, done);
+    let Ok(now) = system.monotonic() else {
+        return if_out(is_out, ErrorKind::Other);
+    };
+    if !has_room(&mut departures.leaving, bytes.len()) {
+        return if_out(is_out, ErrorKind::QuotaExceeded);
+    }
+    let outgoing = Outgoing::answer(departures.alloc, stream, bytes, done, now);
+    start(system, &mut departures.leaving, outgoing, now)
+}
+
+/// Takes over a connection with its answer, of which the system took `done` bytes. It is closed behind the answer. Where it
+/// can't be taken over, or fails at once, it is closed, and one more is lost unless all bytes were taken.
 pub(crate) fn answer<S: System>(
     system: &mut S,
     departures: &mut Departures<S::Stream>,
@@ -270,25 +330,21 @@ pub(crate) fn answer<S: System>(
     bytes: Vec<u8>,
     done: usize,
 )
-    ensures { Answers S.Stream.raw_fd stream bytes done departures.old.leaving.items (S.calls system.old) departures.new.leaving.items (S.calls system.new) }
+    ensures { (result : Result (Unit {0}) Error) × Answers S.Stream.raw_fd stream bytes done departures.old.leaving.items (S.calls system.old) result departures.new.leaving.items (S.calls system.new)
+        × Tallied departures.old.lost departures.new.lost result }
 {
-    let Ok(now) = system.monotonic() else {
-        return;
-    };
-    if !has_room(&mut departures.leaving, bytes.len()) {
-        return;
-    }
-    let outgoing = Outgoing::answer(departures.alloc, stream, bytes, done, now);
-    if start(system, &mut departures.leaving, outgoing, now).is_err() {
-        departures.lost = departures.lost.saturating_add(1);
+    if hand_over(system, departures, stream, bytes, done).is_err() {
+        count_one(&mut departures.lost);
     }
 }
 
 /// How many were lost.
-fn count_lost<C: Drop>(leaving: &[Outgoing<C>]) -> u64 {
+fn count_lost<C: Drop>(leaving: &[Outgoing<C>]) -> u64
+    ensures { result ≡ capped (length (filter is_lost leaving.now)) }
+{
     let mut count: u64 = 0;
-    for outgoing in leaving.iter() {
-        if outgoing.is_lost() {
+    'places: for place in 0..leaving.len() {
+        if leaving[place].is_lost() {
             count = count.saturating_add(1);
         }
     }
@@ -333,7 +389,8 @@ pub(crate) fn advance<S: System>(
     now: Duration,
 )
     ensures { (went : List (Outgoing S.Stream)) × Advances S.Stream.raw_fd (S.calls system.old) departures.old.leaving.items went (S.calls system.new)
-        × (departures.new.leaving.items ≡ filter (λ o. not (is_over o)) went) }
+        × (departures.new.leaving.items ≡ filter (λ o. not (is_over o)) went)
+        × (departures.new.lost ≡ capped (departures.old.lost + length (filter is_lost went))) }
 {
     go_each(system, &mut departures.leaving, now);
     departures.lost = departures

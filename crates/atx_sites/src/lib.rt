@@ -14,4 +14,5 @@ pub mod node_site;
 pub mod open_file;
 pub mod outgoing;
 pub mod resolved_names;
+pub mod troubles;
 pub mod waiting;

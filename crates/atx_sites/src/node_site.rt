@@ -7,20 +7,24 @@ ghost use Rattle.site_model.specs.Told.{Files as Files_told, Is, file_of};
 ghost use Rattle.site_model.specs.Told.Call.{Post, Send};
 ghost use Rattle.site_model.specs.declared.site.Taken.TheVariants.{Opened};
 ghost use Rattle.atx_sites.specs.Arrivals.{Gives, KeepsOn};
+ghost use Rattle.atx_sites.specs.Departures.{Posts};
 ghost use Rattle.atx_sites.specs.Disks.{Tallied, file_at, other_at};
 ghost use Rattle.atx_sites.specs.FileCalls.{Raises, Reads, Sized, Syncs, Writes};
 ghost use Rattle.atx_sites.specs.Files.{is_lost, number_of};
 ghost use Rattle.atx_sites.specs.LinkCalls.{number_at};
 ghost use Rattle.atx_sites.specs.Networks.{Attempted, IfAttached, told_with};
+ghost use Rattle.atx_sites.specs.Failures.{Tells, TellsOne};
+ghost use Rattle.atx_sites.specs.declared.troubles.Step.TheVariants as steps;
 
 use crate::connection::{self, Connection};
 use crate::departures::{self, Departures};
 use crate::disk::{self, Disk};
-use crate::faults::counted;
+use crate::faults::{counted, noted};
+use crate::troubles::{Line, Step, Trouble};
 use site_model::attachments::{Attachments, Given};
 use site_model::site::{AttachFailed, Site, Taken};
 use site_model::source::Failed;
-use std::alloc::Global;
+use std::alloc::{AllocError, Global};
 use std::time::Duration;
 use system_calls::system::System;
 
@@ -44,6 +48,17 @@ pub struct NodeSite<S: System + Drop> {
     link: u64,
     taken: u64,
     attached: Attachments,
+    trouble: Option<Trouble>,
+    journal: String,
+    listen: String,
+}
+
+/// A text of its own; none where there is no memory for it.
+fn kept(alloc: Global, text: &str) -> String {
+    match String::from_str(alloc, text) {
+        Ok(kept) => kept,
+        Err(AllocError) => String::new(alloc),
+    }
 }
 
 impl<S: System + Drop> NodeSite<S> {
@@ -53,6 +68,7 @@ impl<S: System + Drop> NodeSite<S> {
         ensures network { (result.accept ≡ 0) × (result.receive ≡ 0) × (result.link ≡ 0) × (result.taken ≡ 0) }
         ensures shut { (result.connection.listener ≡ None) × (result.connection.served ≡ None) }
         ensures names { result.attached.names ≡ [] }
+        ensures trouble { result.trouble ≡ None }
     {
         NodeSite {
             alloc,
@@ -66,14 +82,31 @@ impl<S: System + Drop> NodeSite<S> {
             link: 0,
             taken: 0,
             attached: Attachments::new(),
+            trouble: None,
+            journal: String::new(alloc),
+            listen: String::new(alloc),
         }
     }
 
-    /// How many posts were lost behind their calls: the peer didn't accept a connection, or didn't take all bytes in time.
+    /// How many answers and posts were lost: there was no room for them, the peer accepted no connection, or not all of their
+    /// bytes were taken in time.
     pub fn lost(&self) -> u64
         ensures { result ≡ self.now.departures.lost }
     {
         self.departures.lost
+    }
+
+    /// The last failure of a call that opens the files or listens, takes a connection, or reads, writes or syncs a file. None
+    /// where there was none.
+    pub fn trouble(&self) -> Option<Trouble>
+        ensures { result ≡ self.now.trouble }
+    {
+        self.trouble
+    }
+
+    /// A trouble of this machine as one line of text, without its end.
+    pub fn line(&self, trouble: Trouble) -> Line<'_> {
+        Line::new(trouble, self.journal.as_str(), self.listen.as_str())
     }
 
     /// From now on a turn in which nothing comes begins by itself, where no connection's turn came for so many milliseconds.
@@ -103,12 +136,15 @@ impl<S: System + Drop> Site for NodeSite<S> {
         ensures sure { OnOk result ((is_lost self.new.disk.first ≡ false) × (is_lost self.new.disk.second ≡ false)) }
         ensures tallied { Attempted self.old.disk.disk self.old.accept self.new.disk.disk self.new.accept result }
         ensures call { Attaches journal.now listen.now result (told_with self.old.disk self.old.accept self.old.receive self.old.link self.old.taken self.old.attached.names) (told_with self.new.disk self.new.accept self.new.receive self.new.link self.new.taken self.new.attached.names) }
+        ensures told { TellsOne None result self.old.trouble self.new.trouble (S.calls self.new.system) }
     {
-        if disk::open(&mut self.system, &mut self.disk, journal).is_err() {
+        self.journal = kept(self.alloc, journal);
+        self.listen = kept(self.alloc, listen);
+        if disk::open(&mut self.system, &mut self.disk, &mut self.trouble, journal).is_err() {
             return Err(AttachFailed::Disk);
         }
         let listening = connection::listen(&mut self.system, &mut self.connection, listen);
-        match counted(&mut self.accept, listening) {
+        match noted(&mut self.accept, &mut self.trouble, Step::Listen, listening) {
             Ok(()) => {
                 self.attached = self.attached.and(&Given { journal, listen });
                 Ok(())
@@ -123,8 +159,9 @@ impl<S: System + Drop> Site for NodeSite<S> {
         ensures tallied { Tallied self.old.disk.disk self.new.disk.disk result }
         ensures is { IfOk result (λ n. (f : Files_told) → Is (told_with self.old.disk self.old.accept self.old.receive self.old.link self.old.taken self.old.attached.names).files f → n ≡ length (file_of file f)) }
         ensures call { Looked result (told_with self.old.disk self.old.accept self.old.receive self.old.link self.old.taken self.old.attached.names) (told_with self.new.disk self.new.accept self.new.receive self.new.link self.new.taken self.new.attached.names) }
+        ensures told { Tells (number_of S.File.raw_fd (file_at file self.old.disk)) (steps.Size file) result self.old.trouble self.new.trouble (S.calls self.new.system) }
     {
-        disk::size(&mut self.system, &mut self.disk, file)
+        disk::size(&mut self.system, &mut self.disk, &mut self.trouble, file)
     }
 
     fn read(&mut self, file: u8, at: u64, buf: &mut [u8]) -> Result<usize, Failed>
@@ -136,8 +173,16 @@ impl<S: System + Drop> Site for NodeSite<S> {
         ensures is { IfOk result (λ n. (f : Files_told) → Is (told_with self.old.disk self.old.accept self.old.receive self.old.link self.old.taken self.old.attached.names).files f → take n buf.new ≡ take n (drop at (file_of file f))) }
         ensures end { IfOk result (λ n. (f : Files_told) → Is (told_with self.old.disk self.old.accept self.old.receive self.old.link self.old.taken self.old.attached.names).files f → n ≡ 0 → 0 < length buf.old → length (file_of file f) ≤ at) }
         ensures call { Looked result (told_with self.old.disk self.old.accept self.old.receive self.old.link self.old.taken self.old.attached.names) (told_with self.new.disk self.new.accept self.new.receive self.new.link self.new.taken self.new.attached.names) }
+        ensures told { Tells (number_of S.File.raw_fd (file_at file self.old.disk)) (steps.Read file) result self.old.trouble self.new.trouble (S.calls self.new.system) }
     {
-        disk::read(&mut self.system, &mut self.disk, file, at, buf)
+        disk::read(
+            &mut self.system,
+            &mut self.disk,
+            &mut self.trouble,
+            file,
+            at,
+            buf,
+        )
     }
 
     #[tactic(auto, using(crate::proofs::SilentMachines::wrote))]
@@ -146,8 +191,16 @@ impl<S: System + Drop> Site for NodeSite<S> {
         ensures shut { file_at file self.old.disk ≡ None → IsErr result }
         ensures tallied { Tallied self.old.disk.disk self.new.disk.disk result }
         ensures call { Wrote file at bytes.now result (told_with self.old.disk self.old.accept self.old.receive self.old.link self.old.taken self.old.attached.names) (told_with self.new.disk self.new.accept self.new.receive self.new.link self.new.taken self.new.attached.names) }
+        ensures told { Tells (number_of S.File.raw_fd (file_at file self.old.disk)) (steps.Write file) result self.old.trouble self.new.trouble (S.calls self.new.system) }
     {
-        disk::write_at(&mut self.system, &mut self.disk, file, at, bytes)
+        disk::write_at(
+            &mut self.system,
+            &mut self.disk,
+            &mut self.trouble,
+            file,
+            at,
+            bytes,
+        )
     }
 
     #[tactic(auto, using(crate::proofs::SilentMachines::synced))]
@@ -158,8 +211,9 @@ impl<S: System + Drop> Site for NodeSite<S> {
         ensures other { other_at file self.new.disk ≡ other_at file self.old.disk }
         ensures tallied { Tallied self.old.disk.disk self.new.disk.disk result }
         ensures call { Synced file result (told_with self.old.disk self.old.accept self.old.receive self.old.link self.old.taken self.old.attached.names) (told_with self.new.disk self.new.accept self.new.receive self.new.link self.new.taken self.new.attached.names) }
+        ensures told { Tells (number_of S.File.raw_fd (file_at file self.old.disk)) (steps.Sync file) result self.old.trouble self.new.trouble (S.calls self.new.system) }
     {
-        disk::sync(&mut self.system, &mut self.disk, file)
+        disk::sync(&mut self.system, &mut self.disk, &mut self.trouble, file)
     }
 
     #[tactic(auto, using(crate::proofs::SilentMachines::raised))]
@@ -169,16 +223,25 @@ impl<S: System + Drop> Site for NodeSite<S> {
         ensures other { other_at file self.new.disk ≡ other_at file self.old.disk }
         ensures tallied { Tallied self.old.disk.gate self.new.disk.gate result }
         ensures call { Raised file at result (told_with self.old.disk self.old.accept self.old.receive self.old.link self.old.taken self.old.attached.names) (told_with self.new.disk self.new.accept self.new.receive self.new.link self.new.taken self.new.attached.names) }
+        ensures told { Tells (number_of S.File.raw_fd (file_at file self.old.disk)) (steps.Gate file) result self.old.trouble self.new.trouble (S.calls self.new.system) }
     {
-        disk::raise_gate(&mut self.system, &mut self.disk, file, at)
+        disk::raise_gate(
+            &mut self.system,
+            &mut self.disk,
+            &mut self.trouble,
+            file,
+            at,
+        )
     }
 
+    #[tactic(auto, using(crate::proofs::Tellings::tells))]
     fn take(&mut self) -> Result<Taken, Failed>
         ensures shut { self.old.connection.listener ≡ None → IsErr result }
         ensures opened { IfOk result (λ taken. taken ≡ Opened) }
         ensures once { OnOk result (self.new.taken ≡ capped (self.old.taken + 1)) }
         ensures tallied { Tallied self.old.accept self.new.accept result }
         ensures call { Takes result (told_with self.old.disk self.old.accept self.old.receive self.old.link self.old.taken self.old.attached.names) (told_with self.new.disk self.new.accept self.new.receive self.new.link self.new.taken self.new.attached.names) }
+        ensures told { Tells (number_at S.Listener.raw_fd self.old.connection.listener) steps.Accept result self.old.trouble self.new.trouble (S.calls self.new.system) }
     {
         let opened = connection::take(
             &mut self.system,
@@ -186,7 +249,7 @@ impl<S: System + Drop> Site for NodeSite<S> {
             &mut self.departures,
             self.every,
         );
-        match counted(&mut self.accept, opened) {
+        match noted(&mut self.accept, &mut self.trouble, Step::Accept, opened) {
             Ok(()) => {
                 self.taken = self.taken.saturating_add(1);
                 Ok(Taken::Opened)
@@ -231,6 +294,8 @@ impl<S: System + Drop> Site for NodeSite<S> {
 
     #[tactic(auto, using(crate::proofs::SilentMachines::gave))]
     fn post(&mut self, host: &str, port: u16, bytes: &[u8]) -> Result<(), Failed>
+        ensures posts { Posts S.Stream.raw_fd host.now port bytes.now self.old.departures.leaving.items (S.calls self.old.system) result self.new.departures.leaving.items (S.calls self.new.system) }
+        ensures lost { Tallied self.old.departures.lost self.new.departures.lost result }
         ensures tallied { Tallied self.old.link self.new.link result }
         ensures call { Gave (Post host.now port bytes.now) result (told_with self.old.disk self.old.accept self.old.receive self.old.link self.old.taken self.old.attached.names) (told_with self.new.disk self.new.accept self.new.receive self.new.link self.new.taken self.new.attached.names) }
     {

@@ -1,10 +1,14 @@
 //! An open file.
 
-ghost use Rattle.std.specs.Prelude.{◌≡◌, [], ◌∷◌, true, false, None, IfOk, IsErr, OnOk, OnErr};
+ghost use Rattle.std.specs.Prelude.{◌≡◌, [], ◌∷◌, true, false, None, IfErr, IfOk, IsErr, OnOk, OnErr};
 ghost use Rattle.std.specs.Io.{ReadsAtMost};
+ghost use Rattle.std.specs.IoError.{raw_os_error};
 ghost use Rattle.atx_sites.specs.Files.{is_lost, number_of};
 ghost use Rattle.atx_sites.specs.FileCalls.{IfOpened, IfTaken, IfAlone, IfSynced, Sized, Reads, Writes, Syncs, Raises};
+ghost use Rattle.atx_sites.specs.Failures.{Ends};
+ghost use Rattle.atx_sites.specs.declared.troubles.Step.TheVariants as steps;
 
+use crate::troubles::{Step, Trouble};
 use std::io::{self, ErrorKind};
 use std::os::fd::AsRawFd;
 use system_calls::system::System;
@@ -17,10 +21,19 @@ pub struct Held<F> {
     pub(crate) is_lost: bool,
 }
 
+/// The error of a call on a file that isn't open.
+fn unopened() -> io::Error
+    ensures { raw_os_error result ≡ None }
+{
+    io::Error::new(ErrorKind::NotFound, "it isn't open")
+}
+
 /// Opens a file for reading and writing, and makes it where it isn't there. What is meant for a standard stream that was
 /// closed doesn't land in it.
+#[tactic(auto, using(crate::proofs::Tellings::ended_open, crate::proofs::Tellings::ended_low))]
 fn open<S: System>(system: &mut S, name: &str) -> io::Result<S::File>
-    ensures { IfOpened S.File.raw_fd name.now result (S.calls system.old) (S.calls system.new) }
+    ensures calls { IfOpened S.File.raw_fd name.now result (S.calls system.old) (S.calls system.new) }
+    ensures fault { IfErr result (λ e. Ends None (steps.Open 0) e (S.calls system.new)) }
 {
     let file = system.open(name)?;
     if file.as_raw_fd() <= 2 {
@@ -32,48 +45,77 @@ fn open<S: System>(system: &mut S, name: &str) -> io::Result<S::File>
 
 /// Takes a regular file that no other process holds: locks it, makes it last, and has it read from the disk from now on, as
 /// an earlier process may have had a sync that failed.
-fn take<S: System>(system: &mut S, file: &S::File) -> io::Result<()>
-    ensures { IfTaken (S.File.raw_fd file.now) result (S.calls system.old) (S.calls system.new) }
+#[tactic(auto, using(crate::proofs::Tellings::ended_kind, crate::proofs::Tellings::ended_lock, crate::proofs::Tellings::ended_settle, crate::proofs::Tellings::ended_forget))]
+fn take<S: System>(system: &mut S, file: &S::File, which: u8) -> Result<(), Trouble>
+    ensures calls { IfTaken (S.File.raw_fd file.now) result (S.calls system.old) (S.calls system.new) }
+    ensures fault { IfErr result (λ t. Ends None t.step t.fault (S.calls system.new)) }
 {
-    if !system.examine(file)?.is_file {
-        return Err(ErrorKind::Unsupported.into());
+    let kind = Step::Kind(which);
+    match system.examine(file) {
+        Ok(stat) if stat.is_file => {}
+        Ok(_) => return Err(Trouble::own(kind, ErrorKind::Unsupported, "it is no regular file")),
+        Err(fault) => return Err(Trouble::new(kind, fault)),
     }
-    system.lock(file)?;
-    system.sync(file)?;
-    system.forget(file)
+    if let Err(fault) = system.lock(file) {
+        return Err(Trouble::new(Step::Lock(which), fault));
+    }
+    if let Err(fault) = system.sync(file) {
+        return Err(Trouble::new(Step::Settle(which), fault));
+    }
+    match system.forget(file) {
+        Ok(()) => Ok(()),
+        Err(fault) => Err(Trouble::new(Step::Settle(which), fault)),
+    }
 }
 
 /// Opens a regular file that no other process holds.
-pub(crate) fn open_alone<S: System>(system: &mut S, name: &str) -> io::Result<Held<S::File>>
+pub(crate) fn open_alone<S: System>(
+    system: &mut S,
+    name: &str,
+    which: u8,
+) -> Result<Held<S::File>, Trouble>
     ensures sure { IfOk result (λ h. h.is_lost ≡ false) }
     ensures calls { IfAlone S.File.raw_fd name.now result (S.calls system.old) (S.calls system.new) }
+    ensures fault { IfErr result (λ t. Ends None t.step t.fault (S.calls system.new)) }
 {
-    let file = open(system, name)?;
-    take(system, &file)?;
-    Ok(Held {
-        file,
-        is_lost: false,
-    })
+    let file = match open(system, name) {
+        Ok(file) => file,
+        Err(fault) => return Err(Trouble::new(Step::Open(which), fault)),
+    };
+    match take(system, &file, which) {
+        Ok(()) => Ok(Held {
+            file,
+            is_lost: false,
+        }),
+        Err(trouble) => Err(trouble),
+    }
 }
 
 /// Makes last which files a folder has.
-pub(crate) fn sync_folder<S: System>(system: &mut S, name: &str) -> io::Result<()>
-    ensures { IfSynced name.now result (S.calls system.old) (S.calls system.new) }
+#[tactic(auto, using(crate::proofs::Tellings::ended_name, crate::proofs::Tellings::ended_folder))]
+pub(crate) fn sync_folder<S: System>(system: &mut S, name: &str) -> Result<(), Trouble>
+    ensures calls { IfSynced name.now result (S.calls system.old) (S.calls system.new) }
+    ensures fault { IfErr result (λ t. Ends None t.step t.fault (S.calls system.new)) }
 {
-    let folder = system.open_folder(name)?;
+    let folder = match system.open_folder(name) {
+        Ok(folder) => folder,
+        Err(fault) => return Err(Trouble::new(Step::Folder, fault)),
+    };
     match system.sync(&folder) {
         Ok(()) => Ok(()),
-        Err(fault) => Err(fault),
+        Err(fault) => Err(Trouble::new(Step::Folder, fault)),
     }
 }
 
 /// The bytes of a file.
+#[tactic(auto, using(crate::proofs::Tellings::ended_size))]
 pub(crate) fn size<S: System>(system: &mut S, held: &Option<Held<S::File>>) -> io::Result<u64>
     ensures shut { held.now ≡ None → IsErr result }
     ensures calls { Sized (number_of S.File.raw_fd held.now) result (S.calls system.old) (S.calls system.new) }
+    ensures fault { IfErr result (λ e. Ends (number_of S.File.raw_fd held.now) (steps.Size 0) e (S.calls system.new)) }
 {
     let Some(held) = held else {
-        return Err(ErrorKind::NotFound.into());
+        return Err(unopened());
     };
     match system.examine(&held.file) {
         Ok(stat) => Ok(stat.bytes),
@@ -82,7 +124,7 @@ pub(crate) fn size<S: System>(system: &mut S, held: &Option<Held<S::File>>) -> i
 }
 
 /// Reads from a place on, and says how many bytes. What a signal interrupted is tried again.
-#[tactic(auto, using(crate::proofs::FilePieces::untried, crate::proofs::FilePieces::tried))]
+#[tactic(auto, using(crate::proofs::FilePieces::untried, crate::proofs::FilePieces::tried, crate::proofs::Tellings::ended_read))]
 fn read_file<S: System>(
     system: &mut S,
     file: &S::File,
@@ -91,6 +133,7 @@ fn read_file<S: System>(
 ) -> io::Result<usize>
     ensures bound { ReadsAtMost result buf.new }
     ensures calls { Reads (S.File.raw_fd file.now) at buf.new result (S.calls system.old) (S.calls system.new) }
+    ensures fault { IfErr result (λ e. Ends (S.File.raw_fd file.now) (steps.Read 0) e (S.calls system.new)) }
 {
     'tries: for _ in 0..u16::MAX {
         match system.read_at(file, buf, at) {
@@ -99,7 +142,7 @@ fn read_file<S: System>(
             Err(fault) => return Err(fault),
         }
     }
-    Err(ErrorKind::Interrupted.into())
+    Err(io::Error::new(ErrorKind::Interrupted, "it was interrupted again and again"))
 }
 
 /// Reads from a place on, and says how many bytes. Zero into a nonempty buffer is the end of the file.
@@ -113,17 +156,19 @@ pub(crate) fn read<S: System>(
     ensures bound { ReadsAtMost result buf.new }
     ensures shut { held.now ≡ None → IsErr result }
     ensures calls { Reads (number_of S.File.raw_fd held.now) at buf.new result (S.calls system.old) (S.calls system.new) }
+    ensures fault { IfErr result (λ e. Ends (number_of S.File.raw_fd held.now) (steps.Read 0) e (S.calls system.new)) }
 {
     match held {
         Some(held) => read_file(system, &held.file, at, buf),
-        None => Err(ErrorKind::NotFound.into()),
+        None => Err(unopened()),
     }
 }
 
 /// Writes all bytes from a place on.
-#[tactic(auto, using(crate::proofs::FilePieces::unwritten, crate::proofs::FilePieces::some_unwritten, crate::proofs::FilePieces::some_written, crate::proofs::FilePieces::wrote_more, crate::proofs::FilePieces::wrote_none))]
+#[tactic(auto, using(crate::proofs::FilePieces::unwritten, crate::proofs::FilePieces::some_unwritten, crate::proofs::FilePieces::some_written, crate::proofs::FilePieces::wrote_more, crate::proofs::FilePieces::wrote_none, crate::proofs::Tellings::ended_write))]
 fn write_all<S: System>(system: &mut S, file: &S::File, at: u64, bytes: &[u8]) -> io::Result<()>
-    ensures { Writes (S.File.raw_fd file.now) at bytes.now result (S.calls system.old) (S.calls system.new) }
+    ensures calls { Writes (S.File.raw_fd file.now) at bytes.now result (S.calls system.old) (S.calls system.new) }
+    ensures fault { IfErr result (λ e. Ends (S.File.raw_fd file.now) (steps.Write 0) e (S.calls system.new)) }
 {
     let mut done = 0;
     'pieces: for _ in 0..u32::MAX {
@@ -131,16 +176,19 @@ fn write_all<S: System>(system: &mut S, file: &S::File, at: u64, bytes: &[u8]) -
             return Ok(());
         }
         let Some(place) = at.checked_add(done as u64) else {
-            return Err(ErrorKind::InvalidInput.into());
+            return Err(io::Error::new(ErrorKind::InvalidInput, "no file has so many bytes"));
         };
         match system.write_at(file, &bytes[done..], place) {
-            Ok(0) => return Err(ErrorKind::WriteZero.into()),
+            Ok(0) => return Err(io::Error::new(
+                ErrorKind::WriteZero,
+                "the system took none of the bytes",
+            )),
             Ok(n) => done += n,
             Err(fault) if fault.kind() == ErrorKind::Interrupted => {}
             Err(fault) => return Err(fault),
         }
     }
-    Err(ErrorKind::Interrupted.into())
+    Err(io::Error::new(ErrorKind::Interrupted, "it was interrupted again and again"))
 }
 
 /// Writes all bytes from a place on.
@@ -153,26 +201,29 @@ pub(crate) fn write<S: System>(
 ) -> io::Result<()>
     ensures shut { held.now ≡ None → IsErr result }
     ensures calls { Writes (number_of S.File.raw_fd held.now) at bytes.now result (S.calls system.old) (S.calls system.new) }
+    ensures fault { IfErr result (λ e. Ends (number_of S.File.raw_fd held.now) (steps.Write 0) e (S.calls system.new)) }
 {
     match held {
         Some(held) => write_all(system, &held.file, at, bytes),
-        None => Err(ErrorKind::NotFound.into()),
+        None => Err(unopened()),
     }
 }
 
 /// Makes last what was written, data and metadata.
+#[tactic(auto, using(crate::proofs::Tellings::ended_sync))]
 pub(crate) fn sync<S: System>(system: &mut S, held: &mut Option<Held<S::File>>) -> io::Result<()>
     ensures lost { is_lost held.old ≡ true → IsErr result × (S.calls system.new ≡ S.calls system.old) }
     ensures done { OnOk result (is_lost held.new ≡ false) }
     ensures failed { OnErr result (is_lost held.new ≡ true) }
     ensures same { number_of S.File.raw_fd held.new ≡ number_of S.File.raw_fd held.old }
     ensures calls { Syncs (number_of S.File.raw_fd held.old) result (S.calls system.old) (S.calls system.new) }
+    ensures fault { IfErr result (λ e. Ends (number_of S.File.raw_fd held.old) (steps.Sync 0) e (S.calls system.new)) }
 {
     let Some(held) = held else {
-        return Err(ErrorKind::NotFound.into());
+        return Err(unopened());
     };
     if held.is_lost {
-        return Err(ErrorKind::Other.into());
+        return Err(io::Error::new(ErrorKind::Other, "a sync of it failed before"));
     }
     let answer = system.sync(&held.file);
     held.is_lost = answer.is_err();
@@ -180,6 +231,7 @@ pub(crate) fn sync<S: System>(system: &mut S, held: &mut Option<Held<S::File>>) 
 }
 
 /// Writes the byte 1 at a place, and makes that last. Where the write failed there is no sync.
+#[tactic(auto, using(crate::proofs::Tellings::of_write, crate::proofs::Tellings::of_sync))]
 pub(crate) fn raise_gate<S: System>(
     system: &mut S,
     held: &mut Option<Held<S::File>>,
@@ -189,6 +241,7 @@ pub(crate) fn raise_gate<S: System>(
     ensures done { OnOk result (is_lost held.new ≡ false) }
     ensures same { number_of S.File.raw_fd held.new ≡ number_of S.File.raw_fd held.old }
     ensures calls { Raises (number_of S.File.raw_fd held.old) at result (S.calls system.old) (S.calls system.new) }
+    ensures fault { IfErr result (λ e. Ends (number_of S.File.raw_fd held.old) (steps.Gate 0) e (S.calls system.new)) }
 {
     match write(system, held, at, &[1]) {
         Ok(()) => sync(system, held),

@@ -1,8 +1,8 @@
 //! One connection with bytes that leave.
 
-ghost use Rattle.std.specs.Prelude.{◌≡◌, ◌≤◌, ℕ, List, true, length};
+ghost use Rattle.std.specs.Prelude.{◌≡◌, ◌≤◌, ℕ, List, length};
 ghost use Rattle.std.specs.declared.net.SocketAddr.{SocketAddr};
-ghost use Rattle.atx_sites.specs.Departures.{Begins, Goes, is_lost, is_over};
+ghost use Rattle.atx_sites.specs.Departures.{Begins, Goes, IfOut, is_lost, is_over};
 
 use std::alloc::Global;
 use std::io::ErrorKind;
@@ -109,9 +109,9 @@ impl<C: Drop> Outgoing<C> {
 
     /// Whether the system took all bytes.
     pub(crate) fn is_out(&self) -> bool
-        ensures { result ≡ true → length self.now.bytes.items ≤ self.now.done }
+        ensures { IfOut result (length self.now.bytes.items) self.now.done }
     {
-        self.done >= self.bytes.len()
+        is_taken(&self.bytes, self.done)
     }
 
     /// What it is when nothing more is to be done.
@@ -140,6 +140,13 @@ impl<C: Drop> Outgoing<C> {
     pub(crate) fn is_ending(&self) -> bool {
         matches!(self.stage, Stage::Ending)
     }
+}
+
+/// Whether so many are all bytes.
+pub(crate) fn is_taken(bytes: &[u8], done: usize) -> bool
+    ensures { IfOut result (length bytes.now) done }
+{
+    done >= bytes.len()
 }
 
 /// Begins to connect to the first of the addresses from `next` on for which the system does.

@@ -2,7 +2,7 @@
 
 ghost use Rattle.std.specs.Prelude.{◌<◌, ℕ, List, IfSome, length};
 ghost use Rattle.system_calls.specs.Calls.{Calls};
-ghost use Rattle.atx_sites.specs.Departures.{Looks};
+ghost use Rattle.atx_sites.specs.Departures.{IsBare, Looks};
 
 use std::alloc::{AllocError, Global};
 use std::io::{self, ErrorKind};
@@ -42,7 +42,9 @@ impl ResolvedNames {
 }
 
 /// A host without the brackets of an IPv6 address.
-fn bare(host: &str) -> &str {
+fn bare(host: &str) -> &str
+    ensures { IsBare host.now result.now }
+{
     match host.strip_prefix('[') {
         Some(inner) => inner.strip_suffix(']').unwrap_or(host),
         None => host,
@@ -131,7 +133,7 @@ pub(crate) fn addresses<S: System>(
     host: &str,
     port: u16,
 ) -> io::Result<Vec<SocketAddr>>
-    ensures { (name : List ℕ) × Looks name port (S.calls system.old) (S.calls system.new) }
+    ensures { (bare : List ℕ) × IsBare host.now bare × Looks bare port (S.calls system.old) (S.calls system.new) }
 {
     let host = bare(host);
     if let Ok(ip) = host.parse::<IpAddr>() {

@@ -1,9 +1,12 @@
 //! Connections that are read aside, each until its turn.
 
-ghost use Rattle.std.specs.Prelude.{◌<◌, [], ◌≡◌, IfSome, length};
+ghost use Rattle.std.specs.Prelude.{◌<◌, ◌≤◌, ◌-◌, [], true, ◌≡◌, IfErr, IfSome, length};
+ghost use Rattle.std.specs.List.{sum_by};
 ghost use Rattle.system_calls.specs.Calls.{Calls, Number};
-ghost use Rattle.atx_sites.specs.Arrivals.{HasCome, HaveCome, IfCame};
+ghost use Rattle.atx_sites.specs.Arrivals.{Bounded, HasCome, HaveCome, IfCame, size_of};
 ghost use Rattle.atx_sites.specs.LinkCalls.{Came, Later};
+ghost use Rattle.atx_sites.specs.Failures.{Ends};
+ghost use Rattle.atx_sites.specs.declared.troubles.Step.TheVariants as steps;
 
 use crate::arriving::{Arriving, asked, read_aside};
 use crate::deadlines::earlier;
@@ -142,19 +145,23 @@ impl<C: AsRawFd + Drop> Waiting<C> {
         }
     }
 
-    /// The bytes of all.
-    fn bytes(&self) -> usize {
+    /// How many bytes more may be read aside of all.
+    fn room(&self) -> usize
+        ensures { result ≡ 67_108_864 - sum_by size_of self.now.arriving.items }
+    {
         let mut bytes = 0usize;
-        for arriving in self.arriving.iter() {
-            bytes = bytes.saturating_add(arriving.bytes.len());
+        'places: for place in 0..self.arriving.len() {
+            bytes = bytes.saturating_add(self.arriving[place].bytes.len());
         }
-        bytes
+        MOST_BYTES.saturating_sub(bytes)
     }
 
     /// Makes room for one more: where too many wait, the oldest whose turn can't come yet is closed. Whether there is some.
     #[tactic(auto, using(crate::proofs::Comings::have_removed))]
     fn has_room(&mut self, now: Duration) -> bool
-        ensures { (number : C → Number) (listener : Number) (calls : Calls) → HaveCome number listener calls self.old.arriving.items → HaveCome number listener calls self.new.arriving.items }
+        ensures came { (number : C → Number) (listener : Number) (calls : Calls) → HaveCome number listener calls self.old.arriving.items → HaveCome number listener calls self.new.arriving.items }
+        ensures bounded { Bounded self.old.arriving.items → Bounded self.new.arriving.items }
+        ensures room { Bounded self.old.arriving.items → result ≡ true → length self.new.arriving.items < 1_024 }
     {
         if self.arriving.len() < MOST {
             return true;
@@ -171,9 +178,10 @@ impl<C: AsRawFd + Drop> Waiting<C> {
     /// Keeps one more, where there is room and memory for it, and where all have not too many bytes then.
     #[tactic(auto, using(crate::proofs::Comings::have_pushed))]
     fn keep(&mut self, arriving: Arriving<C>, now: Duration)
-        ensures { (number : C → Number) (listener : Number) (calls : Calls) → HaveCome number listener calls self.old.arriving.items → HasCome number listener calls arriving → HaveCome number listener calls self.new.arriving.items }
+        ensures came { (number : C → Number) (listener : Number) (calls : Calls) → HaveCome number listener calls self.old.arriving.items → HasCome number listener calls arriving → HaveCome number listener calls self.new.arriving.items }
+        ensures bounded { Bounded self.old.arriving.items → size_of arriving ≤ 131_072 → Bounded self.new.arriving.items }
     {
-        if self.has_room(now) && self.bytes().saturating_add(arriving.bytes.len()) <= MOST_BYTES {
+        if self.has_room(now) && arriving.bytes.len() <= self.room() {
             let _ = self.arriving.push(arriving);
         }
     }
@@ -215,19 +223,19 @@ fn place_of_coming<C>(arrivals: &[Arriving<C>], now: Duration) -> Option<usize>
     None
 }
 
-/// Reads aside what came on one of them. Where all have too many bytes then, it is closed. Whether it is still there.
+/// Reads aside what came on one of them. Where more of it is to come, and all have as many bytes as they may, it is closed.
+/// Whether it is still there.
 #[tactic(auto, using(crate::proofs::Comings::have_still, crate::proofs::Comings::have_set, crate::proofs::Comings::has_taken, crate::proofs::Comings::have_removed))]
 fn read_at<S: System>(system: &mut S, waiting: &mut Waiting<S::Stream>, place: usize) -> bool
     requires { place < length waiting.old.arriving.items }
     ensures came { (listener : Number) → HaveCome S.Stream.raw_fd listener (S.calls system.old) waiting.old.arriving.items → HaveCome S.Stream.raw_fd listener (S.calls system.new) waiting.new.arriving.items }
     ensures later { Later (S.calls system.old) (S.calls system.new) }
+    ensures bounded { Bounded waiting.old.arriving.items → Bounded waiting.new.arriving.items }
 {
-    read_aside(
-        system,
-        &mut waiting.arriving[place],
-        waiting.places.as_mut_slice(),
-    );
-    if waiting.bytes() <= MOST_BYTES {
+    let room = waiting.room();
+    let arriving = &mut waiting.arriving[place];
+    read_aside(system, arriving, waiting.places.as_mut_slice(), room);
+    if waiting.room() > 0 || !waiting.arriving[place].is_coming() {
         return true;
     }
     drop(waiting.arriving.remove(place));
@@ -243,6 +251,7 @@ pub(crate) fn read_found<S: System>(
 )
     ensures came { (listener : Number) → HaveCome S.Stream.raw_fd listener (S.calls system.old) waiting.old.arriving.items → HaveCome S.Stream.raw_fd listener (S.calls system.new) waiting.new.arriving.items }
     ensures later { Later (S.calls system.old) (S.calls system.new) }
+    ensures bounded { Bounded waiting.old.arriving.items → Bounded waiting.new.arriving.items }
 {
     let mut place = 0;
     'found: for ask in found {
@@ -256,7 +265,7 @@ pub(crate) fn read_found<S: System>(
 }
 
 /// Accepts a connection, if one has come. Where the system lacks something, accepting pauses.
-#[tactic(auto, using(crate::proofs::Comings::came_first, crate::proofs::Comings::late_by))]
+#[tactic(auto, using(crate::proofs::Comings::came_first, crate::proofs::Comings::late_by, crate::proofs::Tellings::ended_accept))]
 fn accept_one<S: System>(
     system: &mut S,
     listener: &S::Listener,
@@ -265,6 +274,7 @@ fn accept_one<S: System>(
 ) -> io::Result<Option<S::Stream>>
     ensures came { IfCame S.Stream.raw_fd (S.Listener.raw_fd listener.now) (S.calls system.new) result }
     ensures later { Later (S.calls system.old) (S.calls system.new) }
+    ensures fault { IfErr result (λ e. Ends (S.Listener.raw_fd listener.now) steps.Accept e (S.calls system.new)) }
 {
     match system.accept(listener) {
         Ok((stream, _)) => Ok(Some(stream)),
@@ -287,10 +297,12 @@ fn begin<S: System>(
 )
     ensures came { (listener : Number) → Came listener (S.Stream.raw_fd stream) [] (S.calls system.old) → HaveCome S.Stream.raw_fd listener (S.calls system.old) waiting.old.arriving.items → HaveCome S.Stream.raw_fd listener (S.calls system.new) waiting.new.arriving.items }
     ensures later { Later (S.calls system.old) (S.calls system.new) }
+    ensures bounded { Bounded waiting.old.arriving.items → Bounded waiting.new.arriving.items }
 {
     let ends = now.saturating_add(Duration::from_secs(REQUEST_SECONDS));
     let mut arriving = Arriving::new(waiting.alloc, stream, ends);
-    read_aside(system, &mut arriving, waiting.places.as_mut_slice());
+    let room = waiting.room();
+    read_aside(system, &mut arriving, waiting.places.as_mut_slice(), room);
     waiting.keep(arriving, now);
 }
 
@@ -304,6 +316,8 @@ pub(crate) fn accept_all<S: System>(
 ) -> io::Result<()>
     ensures came { HaveCome S.Stream.raw_fd (S.Listener.raw_fd listener.now) (S.calls system.old) waiting.old.arriving.items → HaveCome S.Stream.raw_fd (S.Listener.raw_fd listener.now) (S.calls system.new) waiting.new.arriving.items }
     ensures later { Later (S.calls system.old) (S.calls system.new) }
+    ensures fault { IfErr result (λ e. Ends (S.Listener.raw_fd listener.now) steps.Accept e (S.calls system.new)) }
+    ensures bounded { Bounded waiting.old.arriving.items → Bounded waiting.new.arriving.items }
 {
     waiting.pause = None;
     'accepted: for _ in 0..MOST {

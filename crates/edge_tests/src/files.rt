@@ -78,9 +78,15 @@ const CALLS: &[Name] = &[
 
 /// Which steps succeed.
 fn steps<S: Site>(site: &mut S) -> [bool; STEPS] {
+    let attached = site.attach("d/j", "127.0.0.1:9").is_ok();
+    let [a, b, c, d, e, f, g] = behind(site);
+    [attached, a, b, c, d, e, f, g]
+}
+
+/// Which of those behind attaching succeed.
+pub(crate) fn behind<S: Site>(site: &mut S) -> [bool; 7] {
     let mut buf = [0u8; 9];
     [
-        site.attach("d/j", "127.0.0.1:9").is_ok(),
         site.write_at(0, 0, b"\x00hello").is_ok(),
         site.sync(0).is_ok(),
         site.size(0).is_ok(),
@@ -118,7 +124,7 @@ fn believes_none(notes: &[Note]) -> bool {
 }
 
 /// The rules under which the n-th call of all fails.
-fn failing(n: usize, code: i32) -> Rule {
+pub(crate) fn failing(n: usize, code: i32) -> Rule {
     Rule {
         name: None,
         n,
@@ -128,7 +134,7 @@ fn failing(n: usize, code: i32) -> Rule {
 }
 
 /// Calls of this name, from the n-th on each `every`-th.
-fn each(name: Name, n: usize, every: usize, act: Act) -> Rule {
+pub(crate) fn each(name: Name, n: usize, every: usize, act: Act) -> Rule {
     Rule {
         name: Some(name),
         n,
@@ -138,7 +144,7 @@ fn each(name: Name, n: usize, every: usize, act: Act) -> Rule {
 }
 
 /// A world with these rules.
-fn ruled(alloc: Global, rules: &[Rule]) -> Result<World, AllocError> {
+pub(crate) fn ruled(alloc: Global, rules: &[Rule]) -> Result<World, AllocError> {
     let mut world = World::new(alloc);
     for rule in rules.iter() {
         world.rule(*rule)?;

@@ -274,6 +274,32 @@ fn what_accept_lacks_is_waited_out(rt: HostRuntime) -> Result<(), Fail> {
     Ok(())
 }
 
+/// When the first turn comes, in milliseconds, where the first polls fail.
+fn polled(alloc: Global, fails: usize) -> Result<Option<u64>, AllocError> {
+    let mut world = world(alloc);
+    world.peer(sender(alloc, 0, 0, OTHER)?)?;
+    for n in 1..=fails {
+        world.rule(each(Name::Poll, n, 0, Act::Fail(EINTR)))?;
+    }
+    let mut system = MemorySystem::new(world);
+    let mut site = NodeSite::new(alloc, &mut system);
+    let attached = site.attach("d/j", "127.0.0.1:9").is_ok();
+    Ok(if attached && hears(&mut site, OTHER) {
+        Some(site.now().saturating_sub(1_000_000))
+    } else {
+        None
+    })
+}
+
+#[test]
+fn polls_that_fail_are_waited_out(rt: HostRuntime) -> Result<(), Fail> {
+    for (fails, millis) in [(0, 0), (1, 0), (2, 100), (5, 100)] {
+        let time = polled(rt.alloc(), fails)?;
+        assert!(rt; time == Some(millis), "{fails} polls: {time:?}");
+    }
+    Ok(())
+}
+
 /// Peers whose requests come in time, while a turn takes long: the disk is slow.
 fn busy(alloc: Global) -> Result<bool, AllocError> {
     let mut world = world(alloc);

@@ -284,7 +284,7 @@ fn crowds(alloc: Global) -> Result<bool, AllocError> {
     let full = site.post("10.0.0.1", 80, POST).is_err();
     let other = site.post("10.0.0.2", 80, POST).is_ok() && site.now() == 1_000_000;
     site.leave();
-    let lost = site.lost() == MOST_TO_ONE && site.now() == 1_005_000;
+    let lost = site.lost() == MOST_TO_ONE + 1 && site.now() == 1_005_000;
     drop(site);
     let arrived = match system.world().peers().last() {
         Some(peer) => peer.took() == POST,
@@ -297,5 +297,49 @@ fn crowds(alloc: Global) -> Result<bool, AllocError> {
 fn a_host_has_its_share(rt: HostRuntime) -> Result<(), Fail> {
     let right = crowds(rt.alloc())?;
     assert!(rt; right, "crowds");
+    Ok(())
+}
+
+/// As many hosts that never accept as take all connections that may leave, with those to each.
+const HOSTS: u8 = 16;
+
+/// A world with these hosts, and a peer that takes the beginning of its answer.
+fn silent(alloc: Global) -> Result<World, AllocError> {
+    let mut world = world(alloc);
+    for host in 1..=HOSTS {
+        for _ in 0..MOST_TO_ONE {
+            world.peer(Peer::found(alloc, address(host), Begin::Never))?;
+        }
+    }
+    world.peer(caller(alloc, 0, 9)?)?;
+    Ok(world)
+}
+
+/// Where nothing more can leave, a post fails and an answer is cut, and each is counted once; so are all the others later.
+fn losses(alloc: Global) -> Result<[u64; 4], AllocError> {
+    let mut system = MemorySystem::new(silent(alloc)?);
+    let mut site = NodeSite::new(alloc, &mut system);
+    let _ = site.attach("d/j", "127.0.0.1:9");
+    let _ = site.take();
+    let _ = site.send(ANSWER);
+    for host in 1..=HOSTS {
+        let name = format!(in alloc; "10.0.0.{host}")?;
+        for _ in 0..MOST_TO_ONE {
+            let _ = site.post(name.as_str(), 80, POST);
+        }
+    }
+    let none = site.lost();
+    let _ = site.post("10.0.0.99", 80, POST);
+    let post = site.lost();
+    site.close();
+    let answer = site.lost();
+    site.leave();
+    Ok([none, post, answer, site.lost()])
+}
+
+#[test]
+fn what_has_no_room_is_lost_once(rt: HostRuntime) -> Result<(), Fail> {
+    let lost = losses(rt.alloc())?;
+    assert!(rt; lost == [0, 1, 2, 1026], "{lost:?}");
     Ok(())
 }

@@ -116,13 +116,6 @@ impl<
         TcpStream::connect(&self.rt, *address)
     }
 
-    fn failure(&mut self, stream: &TcpStream) -> io::Result<()> {
-        match stream.take_error()? {
-            Some(fault) => Err(fault),
-            None => Ok(()),
-        }
-    }
-
     fn poll(&mut self, asks: &mut [pollfd], millis: i32) -> i32 {
         poll(asks, millis)
     }

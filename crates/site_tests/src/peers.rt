@@ -222,7 +222,8 @@ fn attached(rt: &HostRuntime, test: &str, act: Act) -> io::Result<bool> {
     };
     site.leave();
     remove(rt, &name)?;
-    Ok(shut && opened && done? && site.lost() == 0)
+    let lost = if matches!(act, Act::Post) { 1 } else { 0 };
+    Ok(shut && opened && done? && site.lost() == lost)
 }
 
 #[test]

@@ -45,9 +45,8 @@ pub data Call : Type 0 where
   -- with the address that it comes from; reading and writing on it never wait
   Accept : (listener : Number) (got : Answer (Number × SocketAddr)) → Call
   Resolve : (host : List ℕ) (port : ℕ) (got : Answer (List SocketAddr)) → Call
-  -- it begins to connect; what became of it is told by its failure, once it can be written
+  -- it begins to connect; what became of it is told by the next write, once it can be written
   Connect : (address : SocketAddr) (got : Answer Number) → Call
-  Failure : (stream : Number) (got : Answer (Unit {0})) → Call
   -- what is asked of which numbers, and what was found
   Poll : (asked : List pollfd) (millis : ℤ) (found : List pollfd) (count : ℤ) → Call
   Read : (stream : Number) (got : Answer (List ℕ)) → Call

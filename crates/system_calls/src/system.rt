@@ -24,7 +24,7 @@ pub trait System {
     ghost use Rattle.std.specs.Io.{ReadsAtMost, WritesAtMost};
     ghost use Rattle.std.specs.Net.ToAddrs.{host_addrs};
     ghost use Rattle.system_calls.specs.Calls.{Call, answer, came, given, then};
-    ghost use Rattle.system_calls.specs.Calls.Call.{Open, OpenFolder, Duplicate, Examine, Lock, ReadAt, WriteAt, Sync, Forget, Listen, Accept, Resolve, Connect, Failure, Poll, Read, Write, ShutDown, Monotonic};
+    ghost use Rattle.system_calls.specs.Calls.Call.{Open, OpenFolder, Duplicate, Examine, Lock, ReadAt, WriteAt, Sync, Forget, Listen, Accept, Resolve, Connect, Poll, Read, Write, ShutDown, Monotonic};
 
     type File: AsRawFd + Drop;
 
@@ -85,14 +85,10 @@ pub trait System {
     fn resolve(&mut self, host: &str, port: u16) -> io::Result<HostAddrs>
         ensures { calls self.new ≡ then (Resolve host.now port (answer host_addrs result)) (calls self.old) };
 
-    /// Begins to connect to an address, and doesn't wait: once poll says that the connection can be written, `failure` tells
-    /// what became of it. Reading and writing on it never wait.
+    /// Begins to connect to an address, and doesn't wait: once poll says that the connection can be written, the next write
+    /// tells what became of it. Reading and writing on it never wait.
     fn connect(&mut self, address: &SocketAddr) -> io::Result<Self::Stream>
         ensures { calls self.new ≡ then (Connect address.now (answer Self.Stream.raw_fd result)) (calls self.old) };
-
-    /// The fault that a connection met since this was asked last; Ok where there was none.
-    fn failure(&mut self, stream: &Self::Stream) -> io::Result<()>
-        ensures { calls self.new ≡ then (Failure (Self.Stream.raw_fd stream.now) result) (calls self.old) };
 
     /// Waits so many milliseconds, without a limit where that is negative, until one of these numbers is as it is asked, and
     /// says of each what was found, and of how many. It passes over negative numbers.

@@ -3,7 +3,7 @@ use Rattle.std.specs.Prelude.{ℕ, List, ◌∷◌, Some}
 use Rattle.std.specs.Net.ToAddrs.{host_addrs}
 use Rattle.libc.specs.declared.types.pollfd.{pollfd}
 use Rattle.system_calls.specs.Calls.{Call, Number, answer, came, given}
-use Rattle.system_calls.specs.Calls.Call.{Open, OpenFolder, Duplicate, Examine, Lock, ReadAt, WriteAt, Sync, Forget, Listen, Accept, Resolve, Connect, Failure, Poll, Read, Write, ShutDown, Monotonic}
+use Rattle.system_calls.specs.Calls.Call.{Open, OpenFolder, Duplicate, Examine, Lock, ReadAt, WriteAt, Sync, Forget, Listen, Accept, Resolve, Connect, Poll, Read, Write, ShutDown, Monotonic}
 use Rattle.system_memory.specs.declared.handle.Handle.{Handle}
 use Rattle.system_memory.specs.declared.made.Made.{Made}
 use Rattle.system_memory.specs.declared.made.Made.TheVariants as made
@@ -26,7 +26,6 @@ calls_with (made.Listen address got) asked calls = Listen address.now (answer nu
 calls_with (made.Accept listener got) asked calls = Accept (number listener.now) (answer (came number) got.now) ∷ calls
 calls_with (made.Resolve host port got) asked calls = Resolve host.now port (answer host_addrs got.now) ∷ calls
 calls_with (made.Connect address got) asked calls = Connect address.now (answer number got.now) ∷ calls
-calls_with (made.Failure stream got) asked calls = Failure (number stream.now) got.now ∷ calls
 calls_with (made.Asks asks) asked calls = calls
 calls_with (made.Poll millis found count) asked calls = Poll asked millis found.now count ∷ calls
 calls_with (made.Read stream buf got) asked calls = Read (number stream.now) (given buf.now got.now) ∷ calls

@@ -71,10 +71,6 @@ impl System for &mut MemorySystem {
         System::connect(&mut **self, address)
     }
 
-    fn failure(&mut self, stream: &Handle) -> io::Result<()> {
-        System::failure(&mut **self, stream)
-    }
-
     fn poll(&mut self, asks: &mut [pollfd], millis: i32) -> i32 {
         System::poll(&mut **self, asks, millis)
     }

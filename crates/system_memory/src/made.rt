@@ -67,10 +67,6 @@ pub enum Made<'a> {
         address: &'a SocketAddr,
         got: &'a io::Result<Handle>,
     },
-    Failure {
-        stream: &'a Handle,
-        got: &'a io::Result<()>,
-    },
     /// What poll is asked, before it finds anything.
     Asks {
         asks: &'a [pollfd],

@@ -152,13 +152,6 @@ impl System for MemorySystem {
         got
     }
 
-    fn failure(&mut self, stream: &Handle) -> io::Result<()> {
-        let got = self.world.failure(stream.number);
-        self.world.end(&got);
-        self.ledger = self.ledger.and(&Made::Failure { stream, got: &got });
-        got
-    }
-
     fn poll(&mut self, asks: &mut [pollfd], millis: i32) -> i32 {
         self.ledger = self.ledger.and(&Made::Asks { asks });
         let count = self.world.poll(asks, millis);

@@ -184,7 +184,7 @@ impl Peer {
     }
 
     /// The fault, once.
-    pub(crate) fn failure(&mut self, now: Duration) -> io::Result<()> {
+    fn failure(&mut self, now: Duration) -> io::Result<()> {
         if self.told || !self.has_failed(now) {
             return Ok(());
         }

@@ -18,7 +18,6 @@ pub enum Name {
     Accept,
     Resolve,
     Connect,
-    Failure,
     Poll,
     Read,
     Write,
@@ -27,7 +26,7 @@ pub enum Name {
 }
 
 /// How many names there are.
-pub const NAMES: usize = 19;
+pub const NAMES: usize = 18;
 
 /// What a call does in place of its work.
 #[derive(Clone, Copy, Debug, PartialEq, Eq)]

@@ -427,16 +427,6 @@ impl World {
         Err(errno(EBADF))
     }
 
-    pub(crate) fn failure(&mut self, stream: i32) -> io::Result<()> {
-        self.begin(Name::Failure, Some(stream), 0, 0)?;
-        let place = self.peer_of(stream)?;
-        let now = self.clock;
-        match self.peers.get_mut(place) {
-            Some(peer) => peer.failure(now),
-            None => Err(errno(EBADF)),
-        }
-    }
-
     pub(crate) fn read(&mut self, stream: i32, buf: &mut [u8]) -> io::Result<usize>
         ensures bound { ReadsAtMost result buf.new }
     {

@@ -37,3 +37,6 @@ waits-preserved g c = (
   λ h. c.ready.ensures.came g.S.Stream.AsRawFd.raw_fd _ _ (c.wait_once.ensures.came (have_still g.S.Stream.AsRawFd.raw_fd _ _ _ _ (c.waits.invariant.0 h) c.advance.ensures.later)),
   later_still _ _ _ (later_still _ _ _ c.waits.invariant.1 c.advance.ensures.later) c.wait_once.ensures.later,
 )
+
+pub returns-in-Err-clause-fault : goal.returns-in-Err-clause-fault
+returns-in-Err-clause-fault g c = c.in-Err.ensures.fault _

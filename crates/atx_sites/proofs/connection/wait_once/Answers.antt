@@ -1,16 +1,20 @@
-use Rattle.atx_sites.proofs.Comings.{have_still, late_by, later_by, later_still}
+use Rattle.atx_sites.proofs.Comings.{have_still, later_by, later_still}
+use Rattle.atx_sites.proofs.Pausing.{looks_later}
 use Rattle.atx_sites.proofs.connection.wait_once.Goals as goal
+
+pub returns-in_default-clause-came : goal.returns-in_default-clause-came
+returns-in_default-clause-came g c = λ h. have_still g.S.Stream.AsRawFd.raw_fd _ _ _ _ h c.pause_unless.ensures
 
 pub returns-in-Ok-monotonic-clause-came : goal.returns-in-Ok-monotonic-clause-came
 returns-in-Ok-monotonic-clause-came g c =
-    λ h. c.go_on.ensures.came (have_still g.S.Stream.AsRawFd.raw_fd _ _ _ _ h (later_by _ _ _ _ (late_by _ _ _ c.poll.ensures) c.monotonic.ensures))
+    λ h. c.go_on.ensures.came (have_still g.S.Stream.AsRawFd.raw_fd _ _ _ _ h (later_by _ _ _ _ (looks_later _ _ _ _ _ c.look.ensures) c.monotonic.ensures))
 
 pub returns-in-Ok-monotonic-clause-later : goal.returns-in-Ok-monotonic-clause-later
 returns-in-Ok-monotonic-clause-later g c =
-    later_still _ _ _ (later_by _ _ _ _ (late_by _ _ _ c.poll.ensures) c.monotonic.ensures) c.go_on.ensures.later
+    later_still _ _ _ (later_by _ _ _ _ (looks_later _ _ _ _ _ c.look.ensures) c.monotonic.ensures) c.go_on.ensures.later
 
 pub returns-clause-came : goal.returns-clause-came
-returns-clause-came g c = λ h. have_still g.S.Stream.AsRawFd.raw_fd _ _ _ _ h (later_by _ _ _ _ (late_by _ _ _ c.poll.ensures) c.monotonic.ensures)
+returns-clause-came g c = λ h. have_still g.S.Stream.AsRawFd.raw_fd _ _ _ _ h (later_by _ _ _ _ (looks_later _ _ _ _ _ c.look.ensures) c.monotonic.ensures)
 
 pub returns-clause-later : goal.returns-clause-later
-returns-clause-later g c = later_by _ _ _ _ (late_by _ _ _ c.poll.ensures) c.monotonic.ensures
+returns-clause-later g c = later_by _ _ _ _ (looks_later _ _ _ _ _ c.look.ensures) c.monotonic.ensures

@@ -1,20 +1,15 @@
-use Rattle.std.proofs.Common.{[], inl, refl}
-use Rattle.atx_sites.proofs.DepartureLists.{looked_clock, same_bytes, whole}
-use Rattle.atx_sites.proofs.Leavings.{untried}
+use Rattle.std.proofs.Common.{sym, ◌∙◌}
+use Rattle.atx_sites.proofs.Pushes.{tallied_err, tallied_ok}
 use Rattle.atx_sites.proofs.departures.post.Goals as goal
 
-pub returns-in_default : goal.returns-in_default
-returns-in_default g c = (c.addresses.ensures.0, [], _, c.addresses.ensures.1, (c.args.departures.now.leaving.items, whole _, inl (refl, refl, untried _ _)))
+pub returns-then-is_err : goal.returns-then-is_err
+returns-then-is_err g c = record {
+  posts = c.begin_post-posted.ensures.posts;
+  lost = tallied_err c.begin_post-posted.result _ _ _ (sym c.is_err.ensures.value ∙ c.if-is_err.true) c.begin_post-posted.ensures.same c.count_one.ensures;
+}
 
-pub returns-in_default-monotonic : goal.returns-in_default-monotonic
-returns-in_default-monotonic g c =
-    (c.addresses.ensures.0, [], _, looked_clock _ _ _ _ _ _ c.addresses.ensures.1 c.monotonic.ensures, (c.args.departures.now.leaving.items, whole _, inl (refl, refl, untried _ _)))
-
-pub returns-in_default-from_slice : goal.returns-in_default-from_slice
-returns-in_default-from_slice g c =
-    (c.addresses.ensures.0, [], _, looked_clock _ _ _ _ _ _ c.addresses.ensures.1 c.monotonic.ensures, (c.args.departures.now.leaving.items, whole _, inl (refl, refl, untried _ _)))
-
-pub returns : goal.returns
-returns g c =
-    let posts = same_bytes _ _ c.args.bytes.now _ _ _ _ _ _ c.in-Ok-from_slice.ensures.items c.post_to.ensures in
-    (c.addresses.ensures.0, _, _, looked_clock _ _ _ _ _ _ c.addresses.ensures.1 c.monotonic.ensures, posts)
+pub returns-else-is_err : goal.returns-else-is_err
+returns-else-is_err g c = record {
+  posts = c.begin_post-posted.ensures.posts;
+  lost = tallied_ok c.begin_post-posted.result _ _ (sym c.is_err.ensures.value ∙ c.if-is_err.false) c.begin_post-posted.ensures.same;
+}

@@ -1,5 +1,5 @@
 use Rattle.std.proofs.Common.{rules}
 use Rattle.atx_sites.proofs.open_file.sync_folder.Goals as goal
 
-pub returns-in-Ok : goal.returns-in-Ok
-returns-in-Ok g c = (g.S.File.AsRawFd.raw_fd c.in_ok-folder.folder, search rules)
+pub returns-in-Ok-sync-clause-calls : goal.returns-in-Ok-sync-clause-calls
+returns-in-Ok-sync-clause-calls g c = (g.S.File.AsRawFd.raw_fd c.in-Ok.folder, search rules)

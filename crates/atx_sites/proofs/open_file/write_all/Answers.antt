@@ -3,13 +3,13 @@ use Rattle.atx_sites.proofs.FilePieces.{placed, within, wrote_more, wrote_none}
 use Rattle.atx_sites.proofs.open_file.write_all.Goals as goal
 use Rattle.atx_sites.proofs.open_file.write_all.Goals.{in-Ok, in-Err}
 
-pub returns-in-Ok-eq0 : goal.returns-in-Ok-eq0
-returns-in-Ok-eq0 g c =
+pub returns-in-Ok-eq0-clause-calls : goal.returns-in-Ok-eq0-clause-calls
+returns-in-Ok-eq0-clause-calls g c =
     let e = placed _ c.args.at c.pieces.done _ _ _ _ _ c.write_at.ensures.calls c.in-Some.ensures.1 in
     (_, wrote_more _ _ _ _ _ _ _ _ _ _ c.pieces.invariant.1 e c.in-Ok-eq0.is refl)
 
-pub returns-in-Err-2 : goal.returns-in-Err-2
-returns-in-Err-2 g c =
+pub returns-in-Err-2-clause-calls : goal.returns-in-Err-2-clause-calls
+returns-in-Err-2-clause-calls g c =
     let e = placed _ c.args.at c.pieces.done _ _ _ _ _ c.write_at.ensures.calls c.in-Some.ensures.1 in
     (_, wrote_none _ _ _ _ _ _ _ _ _ _ c.pieces.invariant.1 e c.in-Err.is refl)
 

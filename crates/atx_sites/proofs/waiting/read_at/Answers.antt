@@ -1,13 +1,14 @@
 use Rattle.std.proofs.Common.{subst, sym}
-use Rattle.atx_sites.specs.Arrivals.{HaveCome}
+use Rattle.atx_sites.specs.Arrivals.{Bounded, HaveCome}
+use Rattle.atx_sites.proofs.Bounds.{bounded_left, bounded_set}
 use Rattle.atx_sites.proofs.Comings.{have_removed, have_set, have_still, has_taken}
 use Rattle.atx_sites.proofs.waiting.read_at.Goals as goal
 
-pub returns-then-bytes-le-MOST_BYTES-clause-came : goal.returns-then-bytes-le-MOST_BYTES-clause-came
-returns-then-bytes-le-MOST_BYTES-clause-came g c = λ listener h.
+pub returns-then-room-gt0-clause-came : goal.returns-then-room-gt0-clause-came
+returns-then-room-gt0-clause-came g c = λ listener h.
     let number = g.S.Stream.AsRawFd.raw_fd in
     have_set number listener _ _ c.args.place c.read_aside.new.arriving (have_still number listener _ _ _ h c.read_aside.ensures.later)
-    (c.read_aside.ensures.came listener (has_taken number listener _ c.args.waiting.now.arriving.items c.args.place c.index_mut.result.now h c.requires c.index_mut.ensures.value))
+    (c.read_aside.ensures.came listener (has_taken number listener _ c.args.waiting.now.arriving.items c.args.place c.index_mut-arriving.result.now h c.requires c.index_mut-arriving.ensures.value))
 
 pub returns-clause-came : goal.returns-clause-came
 returns-clause-came g c = λ listener h.
@@ -15,4 +16,13 @@ returns-clause-came g c = λ listener h.
     subst (HaveCome number listener _) (sym c.remove.ensures.items)
     (have_removed number listener _ _ c.args.place
     (have_set number listener _ _ c.args.place c.read_aside.new.arriving (have_still number listener _ _ _ h c.read_aside.ensures.later)
-    (c.read_aside.ensures.came listener (has_taken number listener _ c.args.waiting.now.arriving.items c.args.place c.index_mut.result.now h c.requires c.index_mut.ensures.value))))
+    (c.read_aside.ensures.came listener (has_taken number listener _ c.args.waiting.now.arriving.items c.args.place c.index_mut-arriving.result.now h c.requires c.index_mut-arriving.ensures.value))))
+
+pub returns-then-room-gt0-clause-bounded : goal.returns-then-room-gt0-clause-bounded
+returns-then-room-gt0-clause-bounded g c = λ h.
+    bounded_set c.args.waiting.now.arriving.items c.args.place c.index_mut-arriving.result.now c.read_aside.new.arriving c.requires c.index_mut-arriving.ensures.value c.room-room.result c.read_aside.ensures.most c.room-room.ensures c.read_aside.ensures.bound h
+
+pub returns-clause-bounded : goal.returns-clause-bounded
+returns-clause-bounded g c = λ h.
+    subst Bounded (sym c.remove.ensures.items)
+    (bounded_left c.args.waiting.now.arriving.items c.args.place c.index_mut-arriving.result.now c.read_aside.new.arriving c.remove.result c.requires c.index_mut-arriving.ensures.value c.room-room.result c.read_aside.ensures.most c.room-room.ensures c.read_aside.ensures.bound h)

@@ -1,5 +1,5 @@
 use Rattle.system_calls.specs.Calls.{Number}
-use Rattle.atx_sites.specs.Arrivals.{HaveCome}
+use Rattle.atx_sites.specs.Arrivals.{Bounded, HaveCome}
 use Rattle.atx_sites.specs.LinkCalls.{Later}
 use Rattle.atx_sites.proofs.waiting.read_found.Given as goal
 
@@ -7,3 +7,4 @@ abbrev pub invariant-found : goal.invariant-found
 invariant-found g l =
     ((listener : Number) → HaveCome g.S.Stream.AsRawFd.raw_fd listener (g.S.System.calls l.fn.system) l.fn.waiting.arriving.items → HaveCome g.S.Stream.AsRawFd.raw_fd listener (g.S.System.calls l.system) l.waiting.arriving.items)
     × Later (g.S.System.calls l.fn.system) (g.S.System.calls l.system)
+    × (Bounded l.fn.waiting.arriving.items → Bounded l.waiting.arriving.items)

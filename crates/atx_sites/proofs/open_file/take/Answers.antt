@@ -1,0 +1,12 @@
+use Rattle.std.proofs.Common.{None}
+use Rattle.atx_sites.specs.declared.troubles.Step.TheVariants as steps
+use Rattle.atx_sites.proofs.Tellings.{ended_as, ended_forget, ended_settle}
+use Rattle.atx_sites.proofs.open_file.take.Goals as goal
+
+pub returns-in-Err-sync-clause-fault : goal.returns-in-Err-sync-clause-fault
+returns-in-Err-sync-clause-fault g c =
+    ended_as None c.new-in-Err-sync.result (steps.Settle c.args.which) _ _ c.new-in-Err-sync.ensures (ended_settle None _ _ _ c.args.which _ _ c.sync.ensures c.in-Err-sync.is)
+
+pub returns-in-Err-forget-clause-fault : goal.returns-in-Err-forget-clause-fault
+returns-in-Err-forget-clause-fault g c =
+    ended_as None c.new-in-Err-forget.result (steps.Settle c.args.which) _ _ c.new-in-Err-forget.ensures (ended_forget None _ _ _ c.args.which _ _ c.forget.ensures c.in-Err-forget.is)
