@@ -13,3 +13,4 @@ pub mod Servings
 pub mod SilentMachines
 pub mod Tellings
 pub mod Turns
+mod HeldPosts

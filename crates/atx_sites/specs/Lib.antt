@@ -6,3 +6,4 @@ pub mod FileCalls
 pub mod Files
 pub mod LinkCalls
 pub mod Networks
+pub mod Resends

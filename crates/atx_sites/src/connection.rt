@@ -55,6 +55,14 @@ impl<L: Drop, C: AsRawFd + Drop> Connection<L, C> {
     }
 }
 
+/// What was read of the connection that is served.
+pub(crate) fn request<L, C>(connection: &Connection<L, C>) -> &[u8] {
+    match &connection.served {
+        Some(served) => served.arriving.bytes.as_slice(),
+        None => b"",
+    }
+}
+
 /// Listens at an address, in place of the one before. What was open is closed.
 #[tactic(auto, using(crate::proofs::Tellings::ended_listen))]
 pub(crate) fn listen<S: System>(

@@ -7,7 +7,7 @@ ghost use Rattle.site_model.specs.Told.{Files as Files_told, Is, file_of};
 ghost use Rattle.site_model.specs.Told.Call.{Post, Send};
 ghost use Rattle.site_model.specs.declared.site.Taken.TheVariants.{Opened};
 ghost use Rattle.atx_sites.specs.Arrivals.{Gives, KeepsOn};
-ghost use Rattle.atx_sites.specs.Departures.{Posts};
+ghost use Rattle.atx_sites.specs.Resends.{PostsOrHolds};
 ghost use Rattle.atx_sites.specs.Disks.{Tallied, file_at, other_at};
 ghost use Rattle.atx_sites.specs.FileCalls.{Raises, Reads, Sized, Syncs, Writes};
 ghost use Rattle.atx_sites.specs.Files.{is_lost, number_of};
@@ -20,7 +20,9 @@ use crate::connection::{self, Connection};
 use crate::departures::{self, Departures};
 use crate::disk::{self, Disk};
 use crate::faults::{counted, noted};
+use crate::resends::is_held;
 use crate::troubles::{Line, Step, Trouble};
+use resend_delays::delays::Delays;
 use site_model::attachments::{Attachments, Given};
 use site_model::site::{AttachFailed, Site, Taken};
 use site_model::source::Failed;
@@ -32,7 +34,9 @@ use system_calls::system::System;
 ///
 /// Connections are read aside, up to 1,024 at once, and each is taken when its whole request is there, when it ended or failed,
 /// or when 10 seconds are over since it was accepted: a peer that is slow or silent waits alone. What an answer's peer and the
-/// peers of posts don't take at once goes on leaving while other connections are served; they have 5 seconds for that. No
+/// peers of posts don't take at once goes on leaving while other connections are served; they have 5 seconds for that. The same
+/// bytes go to the same host again only 5 seconds later, and then after twice as long each time, a minute at most, unless the
+/// request that is served names their address: a post between is lost. No
 /// call waits for one peer, but the name of a host is looked up without a limit, at most once in 60 seconds: give nodes by IP
 /// addresses, or by names that this machine knows.
 #[derive(Drop)]
@@ -42,6 +46,7 @@ pub struct NodeSite<S: System + Drop> {
     disk: Disk<S::File>,
     connection: Connection<S::Listener, S::Stream>,
     departures: Departures<S::Stream>,
+    delays: Delays,
     every: Option<Duration>,
     accept: u64,
     receive: u64,
@@ -76,6 +81,7 @@ impl<S: System + Drop> NodeSite<S> {
             disk: Disk::new(),
             connection: Connection::new(alloc),
             departures: Departures::new(alloc),
+            delays: Delays::new(alloc),
             every: None,
             accept: 0,
             receive: 0,
@@ -292,13 +298,24 @@ impl<S: System + Drop> Site for NodeSite<S> {
         connection::close(&mut self.system, &mut self.connection, &mut self.departures);
     }
 
-    #[tactic(auto, using(crate::proofs::SilentMachines::gave))]
+    #[tactic(auto, using(crate::proofs::SilentMachines::gave, crate::proofs::HeldPosts::held, crate::proofs::HeldPosts::posted_later))]
     fn post(&mut self, host: &str, port: u16, bytes: &[u8]) -> Result<(), Failed>
-        ensures posts { Posts S.Stream.raw_fd host.now port bytes.now self.old.departures.leaving.items (S.calls self.old.system) result self.new.departures.leaving.items (S.calls self.new.system) }
+        ensures posts { PostsOrHolds S.Stream.raw_fd host.now port bytes.now self.old.delays self.old.departures.leaving.items (S.calls self.old.system) result self.new.departures.leaving.items (S.calls self.new.system) }
         ensures lost { Tallied self.old.departures.lost self.new.departures.lost result }
         ensures tallied { Tallied self.old.link self.new.link result }
         ensures call { Gave (Post host.now port bytes.now) result (told_with self.old.disk self.old.accept self.old.receive self.old.link self.old.taken self.old.attached.names) (told_with self.new.disk self.new.accept self.new.receive self.new.link self.new.taken self.new.attached.names) }
     {
+        let request = connection::request(&self.connection);
+        if is_held(
+            &mut self.system,
+            &mut self.delays,
+            request,
+            host,
+            port,
+            bytes,
+        ) {
+            return Ok(());
+        }
         let answer = departures::post(&mut self.system, &mut self.departures, host, port, bytes);
         counted(&mut self.link, answer)
     }

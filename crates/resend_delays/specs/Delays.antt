@@ -1,5 +1,6 @@
 -- How soon the same post goes out again.
-use Rattle.std.specs.Prelude.{ℕ, ◌≡◌, ◌+◌, ◌*◌, ◌-◌, ◌⊎◌, Bool, Option, Some, None, min, nat_eq, nat_le, true, refl, if◌then◌else◌}
+use Rattle.std.specs.Prelude.{ℕ, ◌≡◌, ◌+◌, ◌*◌, ◌-◌, ◌⊎◌, Bool, Option, Some, None, min, bytes_eq, nat_le, List, [], ◌∷◌, ◌++◌, ◌/◌, ◌%◌, true, refl, if◌then◌else◌}
+use Rattle.sha1.specs.Sha1.{sha1}
 use Rattle.indexmap.specs.IndexMap.{get}
 use Rattle.resend_delays.specs.declared.delays.Delay.{Delay}
 use Rattle.resend_delays.specs.declared.delays.Delays.{Delays}
@@ -31,13 +32,13 @@ abbrev pub either : Option Delay → Option Delay → Option Delay
 either None second = second
 either (Some delay) second = Some delay
 
--- What is known of a post that is known by this number.
-abbrev pub known : Delays → ℕ → Option Delay
-known delays number = either (get nat_eq delays.recent number) (get nat_eq delays.earlier number)
+-- What is known of a post that is known by this mark.
+abbrev pub known : Delays → List ℕ → Option Delay
+known delays mark = either (get bytes_eq delays.recent mark) (get bytes_eq delays.earlier mark)
 
 -- the same now, where what nobody asked about for two minutes is forgotten
-abbrev pub kept : ℕ → Delays → ℕ → Option Delay
-kept now delays number = if nat_le 120000 (now - delays.turned) then get nat_eq delays.recent number else known delays number
+abbrev pub kept : ℕ → Delays → List ℕ → Option Delay
+kept now delays mark = if nat_le 120000 (now - delays.turned) then get bytes_eq delays.recent mark else known delays mark
 
 abbrev pub next : ℕ → Option Delay → Delay
 next now None = begun now
@@ -46,3 +47,7 @@ next now (Some delay) = again now delay
 -- it is noted that the post went out, or there was no room for that
 abbrev pub IsNoted : ℕ → Option Delay → Option Delay → Type 0
 IsNoted now before behind = (behind ≡ Some (next now before)) ⊎ (behind ≡ before)
+
+-- A post is known by the SHA-1 of its host, its port in two bytes, and its bytes.
+abbrev pub mark_of : List ℕ → ℕ → List ℕ → List ℕ
+mark_of host port bytes = sha1 (host ++ (port / 256 ∷ port % 256 ∷ []) ++ bytes)

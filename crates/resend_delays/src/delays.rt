@@ -1,8 +1,8 @@
 //! How soon a post that nobody answers goes out again.
 
-ghost use Rattle.std.specs.Prelude.{ℕ, ◌≡◌, ◌⊎◌, Option, Some, None, false, true, if◌then◌else◌, ◌-◌, nat_eq, nat_le};
+ghost use Rattle.std.specs.Prelude.{ℕ, List, ◌≡◌, ◌⊎◌, Option, Some, None, false, true, if◌then◌else◌, ◌-◌, nat_eq, nat_le};
 ghost use Rattle.indexmap.specs.IndexMap.{get};
-ghost use Rattle.resend_delays.specs.Delays.{IsNoted, again, goes, is_over, kept, known};
+ghost use Rattle.resend_delays.specs.Delays.{IsNoted, again, goes, is_over, kept, known, mark_of};
 
 use indexmap::IndexMap;
 use sha1::Sha1;
@@ -28,13 +28,13 @@ pub struct Delay {
     pub wait: u64,
 }
 
-/// Posts, known by numbers. Behind its first the same goes out again after 5 seconds, and then after twice as long each time, a
+/// Posts, known by their marks. Behind its first the same goes out again after 5 seconds, and then after twice as long each time, a
 /// minute at most.
 #[derive(Drop)]
 pub struct Delays {
     alloc: Global,
-    recent: IndexMap<u64, Delay>,
-    earlier: IndexMap<u64, Delay>,
+    recent: IndexMap<[u8; 20], Delay>,
+    earlier: IndexMap<[u8; 20], Delay>,
     turned: u64,
 }
 
@@ -57,23 +57,20 @@ fn again(now: u64, delay: Delay) -> Delay
     Delay { sent: now, wait }
 }
 
-/// The number by which a post is known: a part of the SHA-1 of its host, its port and its bytes. Two posts with one number
-/// would wait for one another.
-pub fn number_of(host: &str, port: u16, bytes: &[u8]) -> u64 {
+/// By what a post is known: the SHA-1 of its host, its port and its bytes.
+pub fn mark_of(host: &str, port: u16, bytes: &[u8]) -> [u8; 20]
+    ensures { result ≡ mark_of host.now port bytes.now }
+{
     let mut sum = Sha1::new();
     sum.update(host.as_bytes());
-    sum.update(&port.to_be_bytes());
+    sum.update(&[(port >> 8) as u8, (port & 255) as u8]);
     sum.update(bytes);
-    let mut number = 0u64;
-    for byte in sum.finalize().iter().take(8) {
-        number = number << 8 | u64::from(*byte);
-    }
-    number
+    sum.finalize()
 }
 
 impl Delays {
     pub fn new(alloc: Global) -> Delays
-        ensures { (number : ℕ) → known result number ≡ None }
+        ensures { (mark : List ℕ) → known result mark ≡ None }
     {
         Delays {
             alloc,
@@ -83,13 +80,18 @@ impl Delays {
         }
     }
 
+    /// The memory of what is known.
+    pub fn alloc(&self) -> Global {
+        self.alloc
+    }
+
     /// What is known of a post.
-    pub fn find(&self, number: u64) -> Option<Delay>
-        ensures { result ≡ known self.now number }
+    pub fn find(&self, mark: [u8; 20]) -> Option<Delay>
+        ensures { result ≡ known self.now mark }
     {
-        match self.recent.get(&number) {
+        match self.recent.get(&mark) {
             Some(delay) => Some(*delay),
-            None => match self.earlier.get(&number) {
+            None => match self.earlier.get(&mark) {
                 Some(delay) => Some(*delay),
                 None => None,
             },
@@ -98,7 +100,7 @@ impl Delays {
 
     /// Forgets what nobody asked about for long.
     fn turn(&mut self, now: u64)
-        ensures { (number : ℕ) → known self.new number ≡ kept now self.old number }
+        ensures { (mark : List ℕ) → known self.new mark ≡ kept now self.old mark }
     {
         if now.saturating_sub(self.turned) >= FORGOTTEN_AFTER {
             let recent = mem::replace(&mut self.recent, IndexMap::new(self.alloc));
@@ -108,25 +110,25 @@ impl Delays {
     }
 
     /// Keeps what is known of a post, where there is room.
-    fn keep(&mut self, number: u64, delay: Delay)
-        ensures { (known self.new number ≡ Some delay) ⊎ (known self.new number ≡ known self.old number) }
+    fn keep(&mut self, mark: [u8; 20], delay: Delay)
+        ensures { (known self.new mark ≡ Some delay) ⊎ (known self.new mark ≡ known self.old mark) }
     {
         if self.recent.len() < MOST_POSTS {
-            let _ = self.recent.insert(number, delay);
+            let _ = self.recent.insert(mark, delay);
         }
     }
 
     /// Whether a post goes out now, by the clock in milliseconds.
-    pub fn pass(&mut self, now: u64, number: u64) -> bool
-        ensures goes { result ≡ goes now (kept now self.old number) }
-        ensures held { result ≡ false → known self.new number ≡ kept now self.old number }
-        ensures noted { result ≡ true → IsNoted now (kept now self.old number) (known self.new number) }
+    pub fn pass(&mut self, now: u64, mark: [u8; 20]) -> bool
+        ensures goes { result ≡ goes now (kept now self.old mark) }
+        ensures held { result ≡ false → known self.new mark ≡ kept now self.old mark }
+        ensures noted { result ≡ true → IsNoted now (kept now self.old mark) (known self.new mark) }
     {
         self.turn(now);
-        match self.find(number) {
+        match self.find(mark) {
             None => {
                 self.keep(
-                    number,
+                    mark,
                     Delay {
                         sent: now,
                         wait: FIRST_WAIT,
@@ -135,11 +137,11 @@ impl Delays {
                 true
             }
             Some(delay) if is_over(now, delay) => {
-                self.keep(number, again(now, delay));
+                self.keep(mark, again(now, delay));
                 true
             }
             Some(delay) => {
-                self.keep(number, delay);
+                self.keep(mark, delay);
                 false
             }
         }

@@ -1,13 +1,13 @@
-use Rattle.atx_sites.proofs.Receipts.{on_link}
-use Rattle.atx_sites.proofs.SilentMachines.{gave}
-use Rattle.atx_sites.proofs.Turns.{posts_counted, tallied_counted}
+use Rattle.std.proofs.Common.{false, subst, ◌≡◌}
+use Rattle.atx_sites.specs.Resends.{IfHeld}
+use Rattle.atx_sites.proofs.HeldPosts.{posted_later}
+use Rattle.atx_sites.proofs.Turns.{posts_counted}
 use Rattle.atx_sites.proofs.node_site.NodeSiteSite.post.Goals as goal
 
-pub returns-clause-call : goal.returns-clause-call
-returns-clause-call g c = gave _ _ _ _ (on_link c.args.self.now.disk _ _ _ _ _ _ _ c.counted.ensures.cause)
-
 pub returns-clause-posts : goal.returns-clause-posts
-returns-clause-posts g c = posts_counted g.S.Stream.AsRawFd.raw_fd c.args.host.now c.args.port c.args.bytes.now c.args.self.now.departures.leaving.items (g.S.System.calls c.args.self.now.system) c.post-answer.result c.counted.result c.post-answer.new.departures.leaving.items (g.S.System.calls c.post-answer.new.system) c.counted.ensures.as_was c.counted.ensures.ok c.post-answer.ensures.posts
-
-pub returns-clause-lost : goal.returns-clause-lost
-returns-clause-lost g c = tallied_counted _ _ c.post-answer.result c.counted.result c.counted.ensures.as_was c.counted.ensures.ok c.post-answer.ensures.lost
+returns-clause-posts g c =
+    posted_later g.S.Stream.AsRawFd.raw_fd c.args.host.now c.args.port c.args.bytes.now c.args.self.now.delays c.args.self.now.departures.leaving.items (g.S.System.calls c.args.self.now.system)
+    c.counted.result c.post-answer.new.departures.leaving.items (g.S.System.calls c.is_held.new.system) (g.S.System.calls c.post-answer.new.system)
+    (subst (λ held. IfHeld held c.args.host.now c.args.port c.args.bytes.now c.args.self.now.delays (g.S.System.calls c.args.self.now.system) (g.S.System.calls c.is_held.new.system)) c.if-is_held.false c.is_held.ensures)
+    (posts_counted g.S.Stream.AsRawFd.raw_fd c.args.host.now c.args.port c.args.bytes.now c.args.self.now.departures.leaving.items (g.S.System.calls c.is_held.new.system) c.post-answer.result
+    c.counted.result c.post-answer.new.departures.leaving.items (g.S.System.calls c.post-answer.new.system) c.counted.ensures.as_was c.counted.ensures.ok c.post-answer.ensures.posts)
