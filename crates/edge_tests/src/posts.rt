@@ -189,9 +189,15 @@ fn a_post_leaves_aside(rt: HostRuntime) -> Result<(), Fail> {
 
 /// A peer that comes at a time, with a whole request, and that takes so many bytes.
 fn caller(alloc: Global, millis: u64, room: usize) -> Result<Peer, AllocError> {
-    let mut peer = Peer::coming(alloc, address(7), at(millis));
-    peer.sends(alloc, at(millis), REQUEST)?;
+    let mut peer = caller_of(alloc, millis, REQUEST)?;
     peer.takes(room);
+    Ok(peer)
+}
+
+/// A peer that sends this so many milliseconds behind the start of the clock.
+fn caller_of(alloc: Global, millis: u64, request: &[u8]) -> Result<Peer, AllocError> {
+    let mut peer = Peer::coming(alloc, address(7), at(millis));
+    peer.sends(alloc, at(millis), request)?;
     Ok(peer)
 }
 
@@ -245,17 +251,17 @@ fn looks_up(alloc: Global) -> Result<bool, AllocError> {
     let mut site = NodeSite::new(alloc, &mut system);
     let attached = site.attach("d/j", "127.0.0.1:9").is_ok();
     let address = site.post("10.0.0.2", 80, POST).is_ok();
-    let early = posts(&mut site);
-    let before = site.take() == Ok(Taken::Opened) && posts(&mut site);
-    let behind = site.take() == Ok(Taken::Opened) && posts(&mut site);
+    let early = posts(&mut site, b"POST /1 HTTP/1.1\r\n\r\n");
+    let before = site.take() == Ok(Taken::Opened) && posts(&mut site, b"POST /2 HTTP/1.1\r\n\r\n");
+    let behind = site.take() == Ok(Taken::Opened) && posts(&mut site, b"POST /3 HTTP/1.1\r\n\r\n");
     drop(site);
     let times = system.world();
     Ok(attached && address && early && before && behind && times.count(Name::Resolve) == 4)
 }
 
 /// One name has an address and one has none.
-fn posts<S: Site>(site: &mut S) -> bool {
-    site.post("n2.example", 80, POST).is_ok() && site.post("nobody.example", 80, POST).is_err()
+fn posts<S: Site>(site: &mut S, bytes: &[u8]) -> bool {
+    site.post("n2.example", 80, bytes).is_ok() && site.post("nobody.example", 80, bytes).is_err()
 }
 
 #[test]
@@ -263,6 +269,11 @@ fn a_name_is_looked_up_once_in_a_minute(rt: HostRuntime) -> Result<(), Fail> {
     let right = looks_up(rt.alloc())?;
     assert!(rt; right, "names");
     Ok(())
+}
+
+/// One post of many.
+fn numbered(alloc: Global, number: u64) -> Result<String, AllocError> {
+    format!(in alloc; "POST /{number} HTTP/1.1\r\n\r\n")
 }
 
 /// The most connections that leave to one host.
@@ -278,8 +289,9 @@ fn crowds(alloc: Global) -> Result<bool, AllocError> {
     let mut system = MemorySystem::new(world);
     let mut site = NodeSite::new(alloc, &mut system);
     let mut all = true;
-    for _ in 0..MOST_TO_ONE {
-        all = site.post("10.0.0.1", 80, POST).is_ok() && all;
+    for number in 0..MOST_TO_ONE {
+        let post = numbered(alloc, number)?;
+        all = site.post("10.0.0.1", 80, post.as_bytes()).is_ok() && all;
     }
     let full = site.post("10.0.0.1", 80, POST).is_err();
     let other = site.post("10.0.0.2", 80, POST).is_ok() && site.now() == 1_000_000;
@@ -324,8 +336,9 @@ fn losses(alloc: Global) -> Result<[u64; 4], AllocError> {
     let _ = site.send(ANSWER);
     for host in 1..=HOSTS {
         let name = format!(in alloc; "10.0.0.{host}")?;
-        for _ in 0..MOST_TO_ONE {
-            let _ = site.post(name.as_str(), 80, POST);
+        for number in 0..MOST_TO_ONE {
+            let post = numbered(alloc, number)?;
+            let _ = site.post(name.as_str(), 80, post.as_bytes());
         }
     }
     let none = site.lost();
@@ -341,5 +354,51 @@ fn losses(alloc: Global) -> Result<[u64; 4], AllocError> {
 fn what_has_no_room_is_lost_once(rt: HostRuntime) -> Result<(), Fail> {
     let lost = losses(rt.alloc())?;
     assert!(rt; lost == [0, 1, 2, 1026], "{lost:?}");
+    Ok(())
+}
+
+/// At so many seconds behind its first the same post goes out again, or is held back.
+const AGAIN: &[(u64, bool)] = &[
+    (0, true),
+    (4, false),
+    (5, true),
+    (14, false),
+    (15, true),
+    (34, false),
+    (35, true),
+    (75, true),
+    (134, false),
+    (135, true),
+    (195, true),
+];
+
+/// A request that names the address of the post, and one that doesn't.
+const NAMES: &[u8] = b"POST /a HTTP/1.1\r\nContent-Length: 17\r\n\r\nhttp://10.0.0.9/c";
+
+/// So many connections were begun to a peer while the same post was handed over at these moments.
+fn repeats(alloc: Global, request: &[u8]) -> Result<usize, AllocError> {
+    let mut world = world(alloc);
+    for (seconds, _) in AGAIN {
+        world.peer(caller_of(alloc, 1000 * *seconds, request)?)?;
+    }
+    for _ in AGAIN {
+        world.peer(Peer::found(alloc, address(9), Begin::Refused(at(0))))?;
+    }
+    let mut system = MemorySystem::new(world);
+    let mut site = NodeSite::new(alloc, &mut system);
+    let _ = site.attach("d/j", "127.0.0.1:9");
+    for _ in AGAIN {
+        let _ = site.take();
+        let _ = site.post("10.0.0.9", 80, POST);
+    }
+    drop(site);
+    Ok(system.world().count(Name::Connect))
+}
+
+#[test]
+fn the_same_goes_out_less_and_less_often(rt: HostRuntime) -> Result<(), Fail> {
+    let unasked = repeats(rt.alloc(), REQUEST)?;
+    let asked = repeats(rt.alloc(), NAMES)?;
+    assert!(rt; unasked == 7 && asked == AGAIN.len(), "{unasked} {asked}");
     Ok(())
 }
