@@ -7,11 +7,14 @@ use entry_point::program::with_words;
 use logged_sites::log::Log;
 use logged_sites::logged_site::LoggedSite;
 use real_system::real_system::RealSystem;
+use site_model::sink::{Sink, write_all};
 use standard_streams::reading::Reading;
 use standard_streams::writing::Writing;
+use std::alloc::Global;
 use std::env::{self, Args};
 use std::io;
 use std::process::ExitCode;
+use system_calls::system::System;
 
 /// How long a node waits for a connection until it does by itself what is due.
 const TIMER_MILLIS: u64 = 1000;
@@ -34,6 +37,34 @@ fn is_given(words: io::Result<Args>, option: &str) -> bool {
     false
 }
 
+/// Standard output failed.
+const SINK_FAILED: u8 = 5;
+
+/// The disk failed, or the listener did.
+const MACHINE_FAILED: [u8; 2] = [6, 8];
+
+/// Tells standard error why the program ends so, where no result says it.
+fn tell<S: System + Drop, E: Sink>(
+    alloc: Global,
+    status: ExitCode,
+    machine: &NodeSite<S>,
+    errors: &mut E,
+) {
+    if status == ExitCode::from(SINK_FAILED) {
+        let _ = write_all(errors, b"atx: nobody takes what is printed\n");
+    }
+    if let Some(trouble) = machine.trouble() {
+        if MACHINE_FAILED
+            .iter()
+            .any(|failed| status == ExitCode::from(*failed))
+        {
+            if let Ok(line) = format!(in alloc; "atx: {}\n", machine.line(trouble)) {
+                let _ = write_all(errors, line.as_bytes());
+            }
+        }
+    }
+}
+
 /// The machine has a timer of its own unless turns are counted, and a log where one is asked for.
 fn main(rt: HostRuntime) -> ExitCode {
     let mut machine = NodeSite::new(rt.alloc(), RealSystem::new(&rt));
@@ -46,15 +77,17 @@ fn main(rt: HostRuntime) -> ExitCode {
         None
     };
     let mut site = LoggedSite::new(rt.alloc(), machine, log);
+    let mut errors = Writing::new(rt.stderr(), 0);
     let status = with_words(
         rt.alloc(),
         env::args(&rt),
         &mut Reading::new(rt.stdin()),
         &mut Writing::new(rt.stdout(), PATIENCE_SECONDS),
-        &mut Writing::new(rt.stderr(), 0),
+        &mut errors,
         &mut site,
         run,
     );
     site.leave();
+    tell(rt.alloc(), status, site.site(), &mut errors);
     status
 }

@@ -30,6 +30,13 @@ impl<H: Site + Departing + Drop, K: Sink + Drop, C: Clock + Drop> LoggedSite<H, 
         }
     }
 
+    /// The machine inside.
+    pub fn site(&self) -> &H
+        ensures { result.now ≡ self.now.site }
+    {
+        &self.site
+    }
+
     /// Lets go out what still leaves, each until its own time is over.
     pub fn leave(&mut self) {
         self.site.leave();
