@@ -22,19 +22,32 @@ const TIMER_MILLIS: u64 = 1000;
 /// For so many seconds whoever takes what is printed may take nothing.
 const PATIENCE_SECONDS: u32 = 60;
 
-/// Whether an option is among the words, alone or with its value behind `=`.
-fn is_given(words: io::Result<Args>, option: &str) -> bool {
-    let Ok(words) = words else {
-        return false;
-    };
-    for word in words {
-        if let Some(behind) = word.as_str().strip_prefix(option) {
-            if behind.is_empty() || behind.starts_with('=') {
-                return true;
-            }
-        }
+/// What of the words is the machine's own.
+struct Options {
+    /// Turns are counted: then it has no timer.
+    counts_turns: bool,
+    logs: bool,
+}
+
+/// Whether a word is this option, alone or with its value behind `=`.
+fn is_option(word: &str, option: &str) -> bool {
+    match word.strip_prefix(option) {
+        Some(behind) => behind.is_empty() || behind.starts_with('='),
+        None => false,
     }
-    false
+}
+
+/// The options among the words.
+fn options(words: io::Result<Args>) -> io::Result<Options> {
+    let mut options = Options {
+        counts_turns: false,
+        logs: false,
+    };
+    for word in words? {
+        options.counts_turns = options.counts_turns || is_option(word.as_str(), "--turns");
+        options.logs = options.logs || is_option(word.as_str(), "--log");
+    }
+    Ok(options)
 }
 
 /// Standard output failed.
@@ -68,19 +81,24 @@ fn tell<S: System + Drop, E: Sink>(
 /// The machine has a timer of its own unless turns are counted, and a log where one is asked for.
 fn main(rt: HostRuntime) -> ExitCode {
     let mut machine = NodeSite::new(rt.alloc(), RealSystem::new(&rt));
-    if !is_given(env::args(&rt), "--turns") {
-        machine.keep_time(TIMER_MILLIS);
-    }
-    let log = if is_given(env::args(&rt), "--log") {
-        Some(Log::new(rt.alloc(), Writing::new(rt.stderr(), 0), &rt))
-    } else {
-        None
+    let mut log = None;
+    let words = match options(env::args(&rt)) {
+        Ok(options) => {
+            if !options.counts_turns {
+                machine.keep_time(TIMER_MILLIS);
+            }
+            if options.logs {
+                log = Some(Log::new(rt.alloc(), Writing::new(rt.stderr(), 0), &rt));
+            }
+            env::args(&rt)
+        }
+        Err(fault) => Err(fault),
     };
     let mut site = LoggedSite::new(rt.alloc(), machine, log);
     let mut errors = Writing::new(rt.stderr(), 0);
     let status = with_words(
         rt.alloc(),
-        env::args(&rt),
+        words,
         &mut Reading::new(rt.stdin()),
         &mut Writing::new(rt.stdout(), PATIENCE_SECONDS),
         &mut errors,

@@ -73,7 +73,13 @@ impl<C> Arriving<C> {
 
     /// Whether more of it is to be read aside.
     pub(crate) fn is_coming(&self) -> bool {
-        self.rest == Rest::More && self.stage != Stage::Whole && self.bytes.len() < MOST_BYTES
+        let is_read = matches!(self.stage, Stage::Whole | Stage::Foreign);
+        self.rest == Rest::More && !is_read && self.bytes.len() < MOST_BYTES
+    }
+
+    /// Whether a web page sent it.
+    pub(crate) fn is_foreign(&self) -> bool {
+        self.stage == Stage::Foreign
     }
 
     /// Whether its turn may come: its request is whole, it ended or failed, or its time is over.

@@ -1,6 +1,6 @@
 //! The listener of a node, the connections that are read aside, and the one that is served.
 
-ghost use Rattle.std.specs.Prelude.{◌≡◌, ◌≤◌, ◌<◌, ◌+◌, ◌++◌, ◌^◌, None, Some, IfErr, IfOk, IsErr, OnErr, OnOk, drop, length, take};
+ghost use Rattle.std.specs.Prelude.{◌≡◌, ◌≤◌, ◌<◌, ◌+◌, ◌++◌, ◌^◌, None, Some, IfErr, IfOk, IfSome, IsErr, OnErr, OnOk, drop, length, take};
 ghost use Rattle.std.specs.Io.{ReadsAtMost, WritesAtMost};
 ghost use Rattle.std.specs.IoError.{raw_os_error};
 ghost use Rattle.system_calls.specs.Calls.{Number};
@@ -236,6 +236,47 @@ fn nobody() -> io::Error
     io::Error::new(ErrorKind::TimedOut, "nobody came in time")
 }
 
+/// What a web page is answered.
+const FORBIDDEN: &[u8] =
+    b"HTTP/1.1 403 Forbidden\r\nContent-Length: 0\r\nConnection: close\r\n\r\n";
+
+/// Answers a web page 403, and closes its connection behind that.
+fn refuse<S: System>(
+    system: &mut S,
+    departures: &mut Departures<S::Stream>,
+    alloc: Global,
+    arriving: Arriving<S::Stream>,
+)
+    ensures later { Later (S.calls system.old) (S.calls system.new) }
+{
+    let Arriving { stream, .. } = arriving;
+    if let Ok(bytes) = Vec::from_slice(alloc, FORBIDDEN) {
+        departures::answer(system, departures, stream, bytes, 0);
+    }
+}
+
+/// The first whose turn may come. A web page's has none, and is answered.
+#[tactic(auto, using(crate::proofs::Comings::as_late, crate::proofs::Comings::have_still))]
+fn next<S: System>(
+    system: &mut S,
+    waiting: &mut Waiting<S::Stream>,
+    departures: &mut Departures<S::Stream>,
+    now: Duration,
+) -> Option<Arriving<S::Stream>>
+    ensures came { (listener : Number) → HaveCome S.Stream.raw_fd listener (S.calls system.old) waiting.old.arriving.items → HaveCome S.Stream.raw_fd listener (S.calls system.new) waiting.new.arriving.items }
+    ensures taken { (listener : Number) → HaveCome S.Stream.raw_fd listener (S.calls system.old) waiting.old.arriving.items → IfSome result (HasCome S.Stream.raw_fd listener (S.calls system.new)) }
+    ensures later { Later (S.calls system.old) (S.calls system.new) }
+{
+    let Some(ready) = waiting.ready(now) else {
+        return None;
+    };
+    if !ready.is_foreign() {
+        return Some(ready);
+    }
+    refuse(system, departures, waiting.alloc(), ready);
+    None
+}
+
 /// Waits for a connection whose turn may come, for so long where a time is given. Meanwhile what leaves goes on.
 #[tactic(auto, using(crate::proofs::Comings::as_late, crate::proofs::Comings::later_still, crate::proofs::Comings::have_still))]
 fn wait<S: System>(
@@ -260,7 +301,7 @@ fn wait<S: System>(
         if let Err(fault) = wait_once(system, waiting, departures, listener, now, until) {
             return Err(fault);
         }
-        if let Some(ready) = waiting.ready(now) {
+        if let Some(ready) = next(system, waiting, departures, now) {
             return Ok(ready);
         }
         if is_over(until, now) {

@@ -25,6 +25,8 @@ pub(crate) enum Stage {
     Trailer(usize),
     /// All of it is there; or what is there is refused, or answered before more comes.
     Whole,
+    /// It is a web page's: its head has the field Origin (RFC 6454, section 7), which browsers send with each post.
+    Foreign,
 }
 
 /// The number that a value writes in decimal. None where it writes none, or one of more than nine digits.
@@ -60,6 +62,7 @@ struct Said {
     is_chunked: bool,
     waits: bool,
     is_refused: bool,
+    is_foreign: bool,
 }
 
 /// What they say with one field more.
@@ -76,6 +79,8 @@ fn with_field(said: Said, name: &[u8], value: &[u8]) -> Said {
         now.is_chunked = true;
     } else if name.eq_ignore_ascii_case(b"expect") {
         now.waits = said.waits || value.eq_ignore_ascii_case(b"100-continue");
+    } else if name.eq_ignore_ascii_case(b"origin") {
+        now.is_foreign = true;
     }
     now
 }
@@ -87,6 +92,7 @@ fn said_by(bytes: &[u8], places: &[HeaderSpan]) -> Said {
         is_chunked: false,
         waits: false,
         is_refused: false,
+        is_foreign: false,
     };
     for place in places {
         let name = between(bytes, place.name.start, place.name.end);
@@ -96,10 +102,13 @@ fn said_by(bytes: &[u8], places: &[HeaderSpan]) -> Said {
     said
 }
 
-/// What comes behind a whole head. A request that is no post, or whose body ends nowhere, is refused by its head; one that
+/// What comes behind a whole head. One of a web page isn't read further. A request that is no post, or whose body ends nowhere, is refused by its head; one that
 /// waits for an interim answer has no more before that.
 fn behind_head(bytes: &[u8], head: &RequestSpans, places: &[HeaderSpan]) -> Stage {
     let said = said_by(bytes, places);
+    if said.is_foreign {
+        return Stage::Foreign;
+    }
     let is_post = between(bytes, head.method.start, head.method.end) == b"POST".as_slice();
     if !is_post || said.is_refused || said.waits && head.version == 1 {
         return Stage::Whole;
@@ -160,7 +169,7 @@ fn next(stage: Stage, bytes: &[u8], places: &mut [HeaderSpan]) -> Option<Stage> 
         Stage::Sized(_) => None,
         Stage::Chunk(at) => next_of_chunk(bytes, at),
         Stage::Trailer(at) => next_of_trailer(bytes, at),
-        Stage::Whole => None,
+        Stage::Whole | Stage::Foreign => None,
     }
 }
 

@@ -16,26 +16,26 @@ returns-in-Err-wait_once-clause-later g c = later_still _ _ _ (later_still _ _ _
 
 pub returns-in-Some-clause-came : goal.returns-in-Some-clause-came
 returns-in-Some-clause-came g c =
-    λ h. c.ready.ensures.came g.S.Stream.AsRawFd.raw_fd _ _ (c.wait_once.ensures.came (have_still g.S.Stream.AsRawFd.raw_fd _ _ _ _ (c.waits.invariant.0 h) c.advance.ensures.later))
+    λ h. c.next.ensures.came _ (c.wait_once.ensures.came (have_still g.S.Stream.AsRawFd.raw_fd _ _ _ _ (c.waits.invariant.0 h) c.advance.ensures.later))
 
 pub returns-in-Some-clause-later : goal.returns-in-Some-clause-later
-returns-in-Some-clause-later g c = later_still _ _ _ (later_still _ _ _ c.waits.invariant.1 c.advance.ensures.later) c.wait_once.ensures.later
+returns-in-Some-clause-later g c = later_still _ _ _ (later_still _ _ _ (later_still _ _ _ c.waits.invariant.1 c.advance.ensures.later) c.wait_once.ensures.later) c.in-Some.ensures.later
 
 pub returns-in-Some-clause-taken : goal.returns-in-Some-clause-taken
 returns-in-Some-clause-taken g c =
-    λ h. c.in-Some.ensures.taken g.S.Stream.AsRawFd.raw_fd _ _ (c.wait_once.ensures.came (have_still g.S.Stream.AsRawFd.raw_fd _ _ _ _ (c.waits.invariant.0 h) c.advance.ensures.later))
+    λ h. c.in-Some.ensures.taken _ (c.wait_once.ensures.came (have_still g.S.Stream.AsRawFd.raw_fd _ _ _ _ (c.waits.invariant.0 h) c.advance.ensures.later))
 
 pub returns-then-is_over-clause-came : goal.returns-then-is_over-clause-came
 returns-then-is_over-clause-came g c =
-    λ h. c.ready.ensures.came g.S.Stream.AsRawFd.raw_fd _ _ (c.wait_once.ensures.came (have_still g.S.Stream.AsRawFd.raw_fd _ _ _ _ (c.waits.invariant.0 h) c.advance.ensures.later))
+    λ h. c.next.ensures.came _ (c.wait_once.ensures.came (have_still g.S.Stream.AsRawFd.raw_fd _ _ _ _ (c.waits.invariant.0 h) c.advance.ensures.later))
 
 pub returns-then-is_over-clause-later : goal.returns-then-is_over-clause-later
-returns-then-is_over-clause-later g c = later_still _ _ _ (later_still _ _ _ c.waits.invariant.1 c.advance.ensures.later) c.wait_once.ensures.later
+returns-then-is_over-clause-later g c = later_still _ _ _ (later_still _ _ _ (later_still _ _ _ c.waits.invariant.1 c.advance.ensures.later) c.wait_once.ensures.later) c.next.ensures.later
 
 pub waits-preserved : goal.waits-preserved
 waits-preserved g c = (
-  λ h. c.ready.ensures.came g.S.Stream.AsRawFd.raw_fd _ _ (c.wait_once.ensures.came (have_still g.S.Stream.AsRawFd.raw_fd _ _ _ _ (c.waits.invariant.0 h) c.advance.ensures.later)),
-  later_still _ _ _ (later_still _ _ _ c.waits.invariant.1 c.advance.ensures.later) c.wait_once.ensures.later,
+  λ h. c.next.ensures.came _ (c.wait_once.ensures.came (have_still g.S.Stream.AsRawFd.raw_fd _ _ _ _ (c.waits.invariant.0 h) c.advance.ensures.later)),
+  later_still _ _ _ (later_still _ _ _ (later_still _ _ _ c.waits.invariant.1 c.advance.ensures.later) c.wait_once.ensures.later) c.next.ensures.later,
 )
 
 pub returns-in-Err-clause-fault : goal.returns-in-Err-clause-fault
