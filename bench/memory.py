@@ -28,6 +28,7 @@ behind its last request. It stands outside the gate, and wants a built `atx` (or
 commands whose names begin so.
 """
 import collections
+import itertools
 import mmap
 import os
 import re
@@ -38,6 +39,7 @@ import sys
 import tempfile
 import threading
 import time
+import uuid
 
 TOP = os.path.dirname(os.path.dirname(os.path.abspath(__file__)))
 ATX = os.environ.get("ATX", os.path.join(TOP, "crates", "atx", "out", "atx"))
@@ -244,9 +246,15 @@ def messages(schedule):
     return asked
 
 
+def message_id(base, name):
+    return str(uuid.uuid5(uuid.NAMESPACE_URL, base + name)).encode()
+
+
 def local(data):
-    """The same post between nodes on this machine."""
+    """The same post between nodes on this machine: addresses are theirs, and so are the identifiers that are made of them."""
     head, _, body = data.partition(b"\r\n\r\n")
+    for node, name in itertools.product(range(1, 5), REQUESTS):
+        body = body.replace(message_id(f"http://n{node}.example", name), message_id(url(node), name))
     head, body = (re.sub(rb"\bn(\d)\.example", lambda it: b"127.0.0.1:%d" % (PORT + int(it[1])), it) for it in (head, body))
     return re.sub(rb"Content-Length: \d+", b"Content-Length: %d" % len(body), head) + b"\r\n\r\n" + body
 
@@ -255,6 +263,8 @@ def url(node):
     return f"http://127.0.0.1:{PORT + int(node)}"
 
 
+# What is behind a node's base in the name of a request of its own.
+REQUESTS = [f"/{path}/1-{number}#{what}" for path in ("i", "p/d", "p/v") for number in (1, 2, 3) for what in ("create", "register", "work-1", "work-2")]
 TICK = b"POST /tick HTTP/1.0\r\nContent-Length: 0\r\n\r\n"
 SPARE = 3  # turns more than requests, so that one can be asked again: those that are left are ticks
 NO_FILES = (b"", b"")
@@ -264,8 +274,8 @@ class Asked:
     """What a node of a role is asked: its lines, with a `wait` for each request that is to come first; the requests; and the journal
     that it comes up with."""
 
-    def __init__(self, role, node, asked, files=NO_FILES):
-        self.role, self.node, self.files, self.requests, self.lines = role, node, files, [], []
+    def __init__(self, role, node, asked, files=NO_FILES, ending=b"\n"):
+        self.role, self.node, self.files, self.ending, self.requests, self.lines = role, node, files, ending, [], []
         awaited = 0
         for it in asked:
             if isinstance(it, bytes):
@@ -519,7 +529,8 @@ def serving(memory, room, asked):
     try:
         whole = Served(memory, room, listeners, asked, 0, looks=True)
         again = Served(memory, room, listeners, asked, 0)
-        if whole.status or compared(whole, again, asked) != "none" or len(whole.answers) != len(asked.requests):
+        right = whole.status == 0 and whole.out.endswith(asked.ending) and len(whole.answers) == len(asked.requests)
+        if not right or compared(whole, again, asked) != "none":
             raise Wrong(f"with memory: status {whole.status}, {whole.out!r}, {len(whole.answers)} answers, {whole.said!r}")
         came = each(whole, range(1, 2**32), lambda nth: Served(memory, room, listeners, asked, nth), asked)
         return whole.growths, came
@@ -610,18 +621,21 @@ def commands(memory, room):
             return filtered(memory, nth, Asked("coordinator", 2, []).words(journal, 0), b"")
         return refusals(run, machine=True)
 
-    def node(role, number, schedule, files=NO_FILES):
-        return lambda: serving(memory, room, Asked(role, number, messages(schedule)[number], files))
+    def node(role, number, schedule, ending):
+        return lambda: serving(memory, room, Asked(role, number, messages(schedule)[number], NO_FILES, ending))
 
     def behind(role, number):
         """A node that went down before its last request."""
         def run():
             *asked, last = messages(PLAIN)[number]
-            return serving(memory, room, Asked(role, number, [TICK, last], left_by(memory, room, role, number, asked)))
+            files = left_by(memory, room, role, number, asked)
+            if not kept(files):
+                raise Wrong("it has promised nothing")
+            return serving(memory, room, Asked(role, number, [TICK, TICK, last], files))
         return run
 
     def old():
-        return serving(memory, room, Asked("coordinator", 2, [TICK, messages(PLAIN)[2][-1]], (OLD, b"")))
+        return serving(memory, room, Asked("coordinator", 2, [TICK, TICK, messages(PLAIN)[2][-1]], (OLD, b"")))
 
     def timer():
         return timing(memory, room, Asked("coordinator", 2, messages("nodes 2\nbegin 1 2 700\nflush 99\n")[2]))
@@ -641,15 +655,15 @@ def commands(memory, room):
     yield "replay --bytes --settle", plain(["replay", "--bytes", "--settle"], FAULTS.encode())
     yield "initiator, a bad line", plain(Asked("initiator", 1, []).words(os.path.join(room, "none"), 0), b"wait\nfoo\n")
     yield "coordinator, a bad journal", bad
-    yield "participant", node("participant", 3, PLAIN)
+    yield "participant", node("participant", 3, PLAIN, b"leaf 1-1 d committed\n")
     yield "participant, up again", behind("participant", 3)
-    yield "coordinator", node("coordinator", 2, PLAIN)
+    yield "coordinator", node("coordinator", 2, PLAIN, b"root 1-1 committed\n")
     yield "coordinator, up again", behind("coordinator", 2)
     yield "coordinator, an old journal", old
     yield "coordinator, a long journal", lambda: serving(memory, room, Asked("coordinator", 2, [], (LONG, b"")))
-    yield "coordinator, interposed", node("coordinator", 3, MANY)
+    yield "coordinator, interposed", node("coordinator", 3, MANY, b"sub 1-1 committed\n")
     yield "coordinator, its own timer", timer
-    yield "initiator", node("initiator", 1, PLAIN)
+    yield "initiator", node("initiator", 1, PLAIN, b"told 1-1 committed\n")
 
 
 KINDS = ("9", "503", "none", "8", "closed", "unsent")
