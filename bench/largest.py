@@ -168,6 +168,13 @@ def filtering(words, given, begins):
     return run
 
 
+def is_whole(data):
+    """Whether a post is there with all of its body."""
+    head, end, body = data.partition(b"\r\n\r\n")
+    size = re.search(rb"\r\nContent-Length: (\d+)", head)
+    return bool(end and size) and len(body) >= int(size[1])
+
+
 class Peer:
     """Takes posts, and keeps how many there were and how many bytes, or the bytes themselves."""
 
@@ -181,7 +188,7 @@ class Peer:
             it, _ = self.socket.accept()
             with it:
                 data = b""
-                while part := it.recv(65536):
+                while not is_whole(data) and (part := it.recv(65536)):
                     data += part
                 self.last, self.count = data, self.count + 1
 
@@ -305,8 +312,9 @@ def seating(peer):
         for seat in seats:
             answered(notice(seat, "Prepared"), 202)
 
-    def recover(seats):
+    def recover(node, seats, seen):
         answered(posted("/tick", b""), 202)
+        peer.wait(seen + SEATS, node)
         for seat in seats:
             answered(notice(seat, "Committed"), 202)
 
@@ -325,14 +333,13 @@ def seating(peer):
                 return it
             if it.printed() != b"up 1\nroot 1-1 committed\n" or os.path.getsize(journal) < SEATS * 2048:
                 raise Unfit(f"it printed {it.printed()!r}, and its journal has {os.path.getsize(journal)} bytes")
-            again = serve(stack, "coordinator", journal, SEATS + 1)
+            again, seen = serve(stack, "coordinator", journal, SEATS + 1), peer.count
             try:
                 again.is_up()
-                recover(seats)
+                recover(again, seats, seen)
             except Gone:
                 pass
-            if again.ended().status == 0 and peer.count < SEATS:
-                raise Unfit(f"{peer.count} posts came")
+            again.ended()
             again.seconds, again.memory = again.seconds + it.seconds, max(again.memory, it.memory)
             return again
 

@@ -13,14 +13,22 @@ them when they were refused:
            again on its journal, with the next incarnation
     503    a node answered so, and was asked again: then all answers, posts, printed lines and both files of its journal were those
            that they are with memory, to the byte
-    none   the answer, and all that came behind, was to the byte what it is with memory
+    none   all of it was to the byte what it is with memory
+
+A growth of the machine itself, of its connections and posts, is a failed call of the machine instead:
+
+    8      the listener failed, or the post of `tick`, which may have come through: as 9, with this status
+    closed a connection was closed without an answer, and the node was asked again: as 503
+    unsent all was as with memory, but one post, which failed and is as a lost message
 
 Anything else is wrong: another status, half a line, a record or a post that isn't there or that is there twice. Each is printed, and the
 script ends with status 1. A node is asked what `replay --bytes` says that the nodes of a schedule were sent, over the loopback; the
-others at which it posts are this script's, ports 9301 to 9308. It stands outside the gate, and wants a built `atx` (or another
-program, that ATX names). With words only the commands whose names begin so.
+others at which it posts are this script's, ports 9301 to 9308. Of a node with a timer of its own the growths are tried that come
+behind its last request. It stands outside the gate, and wants a built `atx` (or another program, that ATX names). With words only the
+commands whose names begin so.
 """
 import collections
+import itertools
 import mmap
 import os
 import re
@@ -31,6 +39,7 @@ import sys
 import tempfile
 import threading
 import time
+import uuid
 
 TOP = os.path.dirname(os.path.dirname(os.path.abspath(__file__)))
 ATX = os.environ.get("ATX", os.path.join(TOP, "crates", "atx", "out", "atx"))
@@ -138,6 +147,13 @@ def filtered(memory, nth, words, given):
     return it.returncode, out, said, memory.growths()
 
 
+def is_whole(data):
+    """Whether a post is there with all of its body."""
+    head, end, body = data.partition(b"\r\n\r\n")
+    size = re.search(rb"\r\nContent-Length: (\d+)", head)
+    return data == b"end" or bool(end and size) and len(body) >= int(size[1])
+
+
 class Listener:
     """Takes what is posted to a port: it reads each post whole, answers nothing, and keeps it."""
 
@@ -146,14 +162,21 @@ class Listener:
         self.socket = socket.create_server(("127.0.0.1", port), backlog=1024)
         threading.Thread(target=self.take, daemon=True).start()
 
+    @staticmethod
+    def read(it):
+        data = b""
+        it.settimeout(PATIENCE)
+        while not is_whole(data) and (part := it.recv(65536)):
+            data += part
+        return data
+
     def take(self):
         try:
             while True:
                 it, _ = self.socket.accept()
                 with it:
-                    data = b""
-                    while part := it.recv(65536):
-                        data += part
+                    data = self.read(it)
+                if data:
                     self.posts.append((self.port, data))
         except OSError:
             return
@@ -187,19 +210,20 @@ class Wrong(Exception):
     """What came out otherwise than it may."""
 
 
-def refusals(run):
-    """What came of each growth that was refused, of a command that doesn't serve."""
+def refusals(run, machine=False):
+    """What came of each growth that was refused, of a command that doesn't serve, and perhaps uses the machine."""
     whole = run(0)
     came, nth = collections.Counter(), 1
     if whole[2]:
         raise Wrong(f"with memory it says {whole[2]!r}")
+    allowed = [whole[:2], (9, b""), *([(8, b""), (8, whole[1])] if machine else [])]
     while True:
         status, out, said, growths = run(nth)
         if growths < nth:
             return whole[3], came
-        if said or (status, out) not in ((9, b""), whole[:2]):
+        if said or (status, out) not in allowed:
             raise Wrong(f"growth {nth}: status {status}, {out!r}, {said!r}")
-        came["9" if status == 9 else "none"] += 1
+        came["none" if (status, out) == whole[:2] else str(status)] += 1
         nth += 1
 
 
@@ -222,9 +246,15 @@ def messages(schedule):
     return asked
 
 
+def message_id(base, name):
+    return str(uuid.uuid5(uuid.NAMESPACE_URL, base + name)).encode()
+
+
 def local(data):
-    """The same post between nodes on this machine."""
+    """The same post between nodes on this machine: addresses are theirs, and so are the identifiers that are made of them."""
     head, _, body = data.partition(b"\r\n\r\n")
+    for node, name in itertools.product(range(1, 5), REQUESTS):
+        body = body.replace(message_id(f"http://n{node}.example", name), message_id(url(node), name))
     head, body = (re.sub(rb"\bn(\d)\.example", lambda it: b"127.0.0.1:%d" % (PORT + int(it[1])), it) for it in (head, body))
     return re.sub(rb"Content-Length: \d+", b"Content-Length: %d" % len(body), head) + b"\r\n\r\n" + body
 
@@ -233,28 +263,29 @@ def url(node):
     return f"http://127.0.0.1:{PORT + int(node)}"
 
 
+# What is behind a node's base in the name of a request of its own.
+REQUESTS = [f"/{path}/1-{number}#{what}" for path in ("i", "p/d", "p/v") for number in (1, 2, 3) for what in ("create", "register", "work-1", "work-2")]
 TICK = b"POST /tick HTTP/1.0\r\nContent-Length: 0\r\n\r\n"
+SPARE = 3  # turns more than requests, so that one can be asked again: those that are left are ticks
+NO_FILES = (b"", b"")
 
 
 class Asked:
-    """What a node of a role is asked: groups of requests, and the lines before each group. A group has a turn more than requests, so that
-    one of them can be asked twice; else that one is a tick."""
+    """What a node of a role is asked: its lines, with a `wait` for each request that is to come first; the requests; and the journal
+    that it comes up with."""
 
-    def __init__(self, role, node, asked):
-        self.role, self.node, self.groups, self.lines = role, node, [[]], []
+    def __init__(self, role, node, asked, files=NO_FILES, ending=b"\n"):
+        self.role, self.node, self.files, self.ending, self.requests, self.lines = role, node, files, ending, [], []
+        awaited = 0
         for it in asked:
             if isinstance(it, bytes):
-                self.groups[-1].append(it)
+                self.requests.append(it)
+                awaited += 1
             else:
-                self.wait()
+                self.lines += ["wait"] * awaited
                 self.lines.append(self.line(it))
-        self.turns = len(self.groups[-1]) + 2 if self.lines else sum(map(len, self.groups)) + 2
-        self.spare = [1] * (len(self.groups) - 1) + [2]
-
-    def wait(self):
-        if self.lines:
-            self.lines += ["wait"] * (len(self.groups[-1]) + 1)
-            self.groups.append([])
+                awaited = 0
+        self.turns = (awaited if self.lines else len(self.requests)) + SPARE
 
     @staticmethod
     def line(words):
@@ -266,8 +297,9 @@ class Asked:
             return f"work {words[2].split('-')[1]} {url(words[3])} {words[4]} {words[5]} k v"
         return f"{words[0]} {words[2].split('-')[1]}"
 
-    def words(self, journal, turns=None):
-        return [self.role, "--listen", f"127.0.0.1:{PORT + self.node}", "--journal", journal, "--turns", str(self.turns if turns is None else turns)]
+    def words(self, journal, turns):
+        counted = [] if turns is None else ["--turns", str(turns)]
+        return [self.role, "--listen", f"127.0.0.1:{PORT + self.node}", "--journal", journal, *counted]
 
     def given(self):
         return "".join(line + "\n" for line in self.lines).encode()
@@ -275,15 +307,15 @@ class Asked:
 
 def asks(port, data):
     """The answer to a post, or nothing where there is none."""
+    answer = b""
     try:
         with socket.create_connection(("127.0.0.1", port), timeout=PATIENCE) as it:
             it.sendall(data)
-            answer = b""
             while part := it.recv(65536):
                 answer += part
-            return answer
     except (ConnectionRefusedError, ConnectionResetError, BrokenPipeError):
-        return b""
+        pass
+    return answer
 
 
 def frames(file):
@@ -294,6 +326,25 @@ def frames(file):
         found.append(file[at + 5:at + 5 + size])
         at += 5 + size
     return found
+
+
+def generation(bodies):
+    return int.from_bytes(bodies[0][1:], "big") if bodies and bodies[0][0] == 11 else -1
+
+
+def counted(files):
+    """The bodies of the file that counts: the one that was written later."""
+    first, second = map(frames, files)
+    return second if generation(second) > generation(first) else first
+
+
+def kept(files):
+    """The records but for marks and starts."""
+    return [body for body in counted(files) if body[0] not in (1, 11)]
+
+
+def incarnation(files):
+    return max((int.from_bytes(body[1:], "big") for body in counted(files) if body[0] == 1), default=0)
 
 
 def both(journal):
@@ -307,74 +358,116 @@ def both(journal):
     return tuple(found)
 
 
+def lay(journal, files):
+    """Has the journal begin with these files."""
+    for name, data in zip((journal, journal + ".1"), files):
+        with open(name, "wb") as file:
+            file.write(data)
+
+
 class Served:
-    """What a node did: its answers, whether it was busy, its posts, lines, files, status, and its records after each answer."""
+    """What a node did: its answers, how often it was busy or closed a connection unanswered, its posts, lines, files, status, and its
+    records after each answer."""
 
     def __init__(self, memory, room, listeners, asked, nth, looks=False):
-        self.answers, self.busy, self.records = [], 0, []
-        self.journal = os.path.join(room, "journal")
-        for name in (self.journal, self.journal + ".1"):
-            if os.path.exists(name):
-                os.remove(name)
+        self.answers, self.records, self.busy, self.closed, self.ticks = [], [], 0, 0, 0
+        self.journal, self.port = os.path.join(room, "journal"), PORT + asked.node
+        lay(self.journal, asked.files)
         self.run(memory, room, asked, nth, looks)
         self.growths = memory.growths()
         self.posts = taken(listeners)
         self.files = both(self.journal)
 
     def run(self, memory, room, asked, nth, looks):
-        out, given = os.path.join(room, "out"), os.path.join(room, "given")
-        with open(given, "wb") as file:
-            file.write(asked.given())
-        with open(out, "wb") as told, open(given, "rb") as lines:
-            it = memory.start(nth, asked.words(self.journal), stdin=lines, stdout=told)
-        try:
-            if self.is_up(it, out):
+        with begun(memory, room, asked, nth, asked.words(self.journal, asked.turns)) as (it, out):
+            if is_up(it, out):
                 self.ask(asked, looks)
-            _, self.said = it.communicate(timeout=PATIENCE)
-        finally:
-            it.kill()
-            it.wait()
-        self.status = it.returncode
-        with open(out, "rb") as told:
-            self.out = told.read()
+                self.tick(it)
+            self.said = said(it)
+        self.status, self.out = it.returncode, printed(out)
 
-    @staticmethod
-    def is_up(it, out):
-        end = time.time() + PATIENCE
-        while time.time() < end:
-            with open(out, "rb") as told:
-                if told.read().startswith(b"up "):
-                    return True
-            if it.poll() is not None:
-                return False
-            time.sleep(0.001)
-        raise Wrong("it neither comes up nor ends")
+    def insist(self, data):
+        """The answer to a request, which is asked once more where the node was busy, or didn't answer."""
+        answer = asks(self.port, data)
+        if answer and not answer.startswith(BUSY):
+            return answer
+        was_busy, answer = bool(answer), asks(self.port, data)
+        if answer:
+            self.busy, self.closed = self.busy + was_busy, self.closed + (not was_busy)
+        return answer
 
     def ask(self, asked, looks):
-        for group, spare in zip(asked.groups, asked.spare):
-            left = spare
-            for data in [*group, *[TICK] * spare]:
-                if data is TICK and not left:
-                    break
-                answer = asks(PORT + asked.node, data)
-                if answer.startswith(BUSY):
-                    self.busy, left = self.busy + 1, left - 1
-                    answer = asks(PORT + asked.node, data) if data is not TICK else b"a tick"
-                elif data is TICK:
-                    left -= 1
-                if not answer:
-                    return
-                if looks:
-                    time.sleep(0.05)
-                if data is not TICK:
-                    self.answers.append(answer)
-                    self.records.append(frames(both(self.journal)[0]))
+        for data in asked.requests:
+            answer = self.insist(data)
+            if not answer:
+                return
+            if looks:
+                time.sleep(0.05)
+            self.answers.append(answer)
+            self.records.append(kept(both(self.journal)))
+
+    def tick(self, it):
+        """Asks for ticks until all turns are done."""
+        missed = 0
+        for _ in range(2 * SPARE):
+            answer = asks(self.port, TICK)
+            if answer:
+                self.closed, self.busy, self.ticks, missed = self.closed + missed, self.busy + answer.startswith(BUSY), self.ticks + 1, 0
+            elif it.poll() is not None:
+                break
+            else:
+                missed += 1
+        if not self.closed and not self.busy and self.ticks < SPARE and it.wait(PATIENCE) == 0:
+            self.closed = 1
 
 
-def comes_up(asked, journal, starts):
+class begun:
+    """A program that serves, and the file to which it prints; it is ended in any case."""
+
+    def __init__(self, memory, room, asked, nth, words):
+        self.out, given = os.path.join(room, "out"), os.path.join(room, "given")
+        with open(given, "wb") as file:
+            file.write(asked.given())
+        with open(self.out, "wb") as told, open(given, "rb") as lines:
+            self.it = memory.start(nth, words, stdin=lines, stdout=told)
+
+    def __enter__(self):
+        return self.it, self.out
+
+    def __exit__(self, *_):
+        self.it.kill()
+        self.it.wait()
+
+
+def said(it):
+    """What a program that is about to end says on standard error."""
+    try:
+        return it.communicate(timeout=PATIENCE)[1]
+    except subprocess.TimeoutExpired:
+        raise Wrong("it doesn't end") from None
+
+
+def printed(out):
+    with open(out, "rb") as told:
+        return told.read()
+
+
+def is_up(it, out):
+    end = time.time() + PATIENCE
+    while time.time() < end:
+        if printed(out).startswith(b"up "):
+            return True
+        if it.poll() is not None:
+            return False
+        time.sleep(0.001)
+    raise Wrong("it neither comes up nor ends")
+
+
+def comes_up(asked, journal):
     """Whether a node comes up on what is there, in the next incarnation."""
+    wanted = b"up %d\n" % (incarnation(both(journal)) + 1)
     it = subprocess.run([ATX, *asked.words(journal, 0)], stdin=subprocess.DEVNULL, capture_output=True, timeout=PATIENCE, check=False)
-    return it.returncode == 0 and it.stdout == f"up {starts + 1}\n".encode()
+    return it.returncode == 0 and it.stdout == wanted
 
 
 def is_beginning(part, whole):
@@ -382,50 +475,130 @@ def is_beginning(part, whole):
     return whole[:len(part)] == part
 
 
+def lacks_one(posts, whole):
+    """Whether one post is missing, and the others are there in order."""
+    return any(posts == whole[:at] + whole[at + 1:] for at in range(len(whole)))
+
+
 def compared(whole, it, asked):
     """What came of a growth that was refused."""
-    same = it.answers == whole.answers and it.posts == whole.posts and it.out == whole.out and it.files == whole.files
-    if it.status == 0 and same:
-        return "503" if it.busy else "none"
-    if it.status != 9:
-        raise Wrong(f"status {it.status}, busy {it.busy}, {it.out!r}")
-    if it.busy:
+    if it.status == 0 and (it.answers, it.out, it.files) == (whole.answers, whole.out, whole.files):
+        if it.posts == whole.posts:
+            return "503" if it.busy else "closed" if it.closed else "none"
+        if not it.busy and not it.closed and lacks_one(it.posts, whole.posts):
+            return "unsent"
+    if it.status not in (8, 9):
+        raise Wrong(f"status {it.status}, busy {it.busy}, closed {it.closed}, {len(it.answers)} answers, {len(it.posts)} of {len(whole.posts)} posts, "
+                    f"{it.out!r}, files {it.files == whole.files}")
+    if it.busy or it.closed:
         raise Wrong("it was busy, and ended too")
     if not is_beginning(it.out.splitlines(True), whole.out.splitlines(True)) or not it.out.endswith(b"\n") and it.out:
         raise Wrong(f"it printed {it.out!r}")
     if not is_beginning(it.answers, whole.answers) or collections.Counter(it.posts) - collections.Counter(whole.posts):
         raise Wrong("it answered or posted something else")
-    found, answered = frames(it.files[0]), len(it.answers)
-    least = whole.records[answered - 1] if answered else []
-    most = whole.records[min(answered, len(whole.records) - 1)]
-    if not is_beginning(least, found) or not is_beginning(found, most) or it.files[1] != whole.files[1]:
+    found, answered = kept(it.files), len(it.answers)
+    least = whole.records[answered - 1] if answered else kept(asked.files)
+    most = whole.records[min(answered, len(whole.records) - 1)] if whole.records else kept(asked.files)
+    if not is_beginning(least, found) or not is_beginning(found, most):
         raise Wrong(f"{len(found)} records, where there are {len(least)} to {len(most)}")
-    if not comes_up(asked, it.journal, sum(body[0] == 1 for body in found)):
+    if not comes_up(asked, it.journal):
         raise Wrong("it doesn't come up again")
-    return "9"
+    return str(it.status)
 
 
-def serving(memory, room, role, node, schedule):
-    asked = Asked(role, node, messages(schedule)[node])
-    listeners = [Listener(PORT + other) for other in range(1, 5) if other != node]
+def listening(node):
+    return [Listener(PORT + other) for other in range(1, 5) if other != node]
+
+
+def each(whole, growths, run, asked):
+    """What came of each of these growths."""
+    came = collections.Counter()
+    for nth in growths:
+        it = run(nth)
+        if it.growths < nth:
+            break
+        try:
+            came[compared(whole, it, asked)] += 1
+        except Wrong as fault:
+            raise Wrong(f"growth {nth}: {fault}") from fault
+    return came
+
+
+def serving(memory, room, asked):
+    listeners = listening(asked.node)
     try:
         whole = Served(memory, room, listeners, asked, 0, looks=True)
         again = Served(memory, room, listeners, asked, 0)
-        if whole.status or compared(whole, again, asked) != "none" or len(whole.answers) != sum(map(len, asked.groups)):
+        right = whole.status == 0 and whole.out.endswith(asked.ending) and len(whole.answers) == len(asked.requests)
+        if not right or compared(whole, again, asked) != "none":
             raise Wrong(f"with memory: status {whole.status}, {whole.out!r}, {len(whole.answers)} answers, {whole.said!r}")
-        came, nth = collections.Counter(), 1
-        while True:
-            it = Served(memory, room, listeners, asked, nth)
-            if it.growths < nth:
-                return whole.growths, came
-            try:
-                came[compared(whole, it, asked)] += 1
-            except Wrong as fault:
-                raise Wrong(f"growth {nth}: {fault}") from fault
-            nth += 1
+        came = each(whole, range(1, 2**32), lambda nth: Served(memory, room, listeners, asked, nth), asked)
+        return whole.growths, came
     finally:
         for it in listeners:
             it.close()
+
+
+def left_by(memory, room, role, node, asked):
+    """The journal that a node leaves that was asked this."""
+    listeners = listening(node)
+    try:
+        return Served(memory, room, listeners, Asked(role, node, asked), 0).files
+    finally:
+        for it in listeners:
+            it.close()
+
+
+class Timed:
+    """The same of a node with a timer of its own, up to the line and the post that it brings by itself."""
+
+    LAST, AWAITED = b"root 1-1 aborted\n", 8
+
+    def __init__(self, memory, room, listeners, asked, nth):
+        self.records, self.busy, self.closed, self.growths = [[]], 0, 0, 0
+        self.journal = os.path.join(room, "journal")
+        lay(self.journal, NO_FILES)
+        with begun(memory, room, asked, nth, asked.words(self.journal, None)) as (it, out):
+            self.answers = [asks(PORT + asked.node, data) for data in asked.requests] if is_up(it, out) else []
+            self.first = memory.growths()
+            self.status = self.wait(it, out)
+            time.sleep(0.2)
+            self.growths = memory.growths()
+        self.out, self.posts, self.files = printed(out), taken(listeners), both(self.journal)
+
+    def wait(self, it, out):
+        """The status with which it ended, or 0 where it goes on and has printed its last line."""
+        end = time.time() + self.AWAITED
+        while time.time() < end:
+            if it.poll() is not None:
+                return it.returncode
+            if printed(out).endswith(self.LAST):
+                return 0
+            time.sleep(0.005)
+        raise Wrong("what is due isn't done")
+
+
+def timing(memory, room, asked):
+    listeners = listening(asked.node)
+    try:
+        whole = Timed(memory, room, listeners, asked, 0)
+        growths = range(whole.first + 1, whole.growths + 1)
+        came = each(whole, growths, lambda nth: Timed(memory, room, listeners, asked, nth), asked)
+        return sum(came.values()), came
+    finally:
+        for it in listeners:
+            it.close()
+
+
+def framed(*bodies):
+    return b"".join(b"\1" + len(body).to_bytes(4, "big") + body for body in bodies) + b"\0"
+
+
+START = b"\1\0\0\0\1"
+# Starts of 65,531 bytes with their mark: behind one more the journal is written anew at the end of a turn.
+LONG = framed(b"\x0b\0\0\0\0", *[START] * 6552)
+# A journal of version 1, with a decision for one participant.
+OLD = framed(START, b"\6\0\0\0\1\0\0\0\1\0\1\0\1\0\x1dhttp://127.0.0.1:9303/p/d/1-1\0\0")
 
 
 def commands(memory, room):
@@ -436,14 +609,40 @@ def commands(memory, room):
     def tick():
         listener = Listener(PORT + 8)
         try:
-            return refusals(lambda nth: ticked(memory, nth, listener))
+            return refusals(lambda nth: ticked(memory, nth, listener), machine=True)
         finally:
             listener.close()
 
-    def node(role, number, schedule):
-        return lambda: serving(memory, room, role, number, schedule)
+    def bad():
+        journal = os.path.join(room, "bad")
+
+        def run(nth):
+            lay(journal, (b"\1\0\0\0\5\1\0", b""))
+            return filtered(memory, nth, Asked("coordinator", 2, []).words(journal, 0), b"")
+        return refusals(run, machine=True)
+
+    def node(role, number, schedule, ending):
+        return lambda: serving(memory, room, Asked(role, number, messages(schedule)[number], NO_FILES, ending))
+
+    def behind(role, number):
+        """A node that went down before its last request."""
+        def run():
+            *asked, last = messages(PLAIN)[number]
+            files = left_by(memory, room, role, number, asked)
+            if not kept(files):
+                raise Wrong("it has promised nothing")
+            return serving(memory, room, Asked(role, number, [TICK, TICK, last], files))
+        return run
+
+    def old():
+        return serving(memory, room, Asked("coordinator", 2, [TICK, TICK, messages(PLAIN)[2][-1]], (OLD, b"")))
+
+    def timer():
+        return timing(memory, room, Asked("coordinator", 2, messages("nodes 2\nbegin 1 2 700\nflush 99\n")[2]))
 
     yield "--help", plain(["--help"])
+    yield "help", plain(["help"])
+    yield "help coordinator", plain(["help", "coordinator"])
     yield "--version", plain(["--version"])
     yield "faulty words", plain(["cell", "--state", "Nowhere"])
     yield "check", plain(["check", "--path", "/work"], WORK)
@@ -454,26 +653,40 @@ def commands(memory, room):
     yield "replay, refused", plain(["replay"], b"nodes 1\nup 1\nfoo\n")
     yield "replay", plain(["replay"], PLAIN.encode())
     yield "replay --bytes --settle", plain(["replay", "--bytes", "--settle"], FAULTS.encode())
-    yield "participant", node("participant", 3, PLAIN)
-    yield "coordinator", node("coordinator", 2, PLAIN)
-    yield "coordinator, interposed", node("coordinator", 3, MANY)
-    yield "initiator", node("initiator", 1, PLAIN)
+    yield "initiator, a bad line", plain(Asked("initiator", 1, []).words(os.path.join(room, "none"), 0), b"wait\nfoo\n")
+    yield "coordinator, a bad journal", bad
+    yield "participant", node("participant", 3, PLAIN, b"leaf 1-1 d committed\n")
+    yield "participant, up again", behind("participant", 3)
+    yield "coordinator", node("coordinator", 2, PLAIN, b"root 1-1 committed\n")
+    yield "coordinator, up again", behind("coordinator", 2)
+    yield "coordinator, an old journal", old
+    yield "coordinator, a long journal", lambda: serving(memory, room, Asked("coordinator", 2, [], (LONG, b"")))
+    yield "coordinator, interposed", node("coordinator", 3, MANY, b"sub 1-1 committed\n")
+    yield "coordinator, its own timer", timer
+    yield "initiator", node("initiator", 1, PLAIN, b"told 1-1 committed\n")
+
+
+KINDS = ("9", "503", "none", "8", "closed", "unsent")
+
+
+def shown(cells):
+    return "".join(f"{cell:>8}" for cell in cells)
 
 
 def main(words):
     if not os.access(ATX, os.X_OK):
         sys.exit("memory: build the program first: ./atx --version")
     right = True
-    print(f"{'':<26}{'growths':>9}{'9':>9}{'503':>9}{'none':>9}")
+    print(f"{'':<28}{shown(['growths', *KINDS])}")
     with tempfile.TemporaryDirectory() as room:
         for name, tried in commands(Memory(room), room):
             if words and not name.startswith(tuple(words)):
                 continue
             try:
                 growths, came = tried()
-                print(f"{name:<26}{growths:>9}{came['9']:>9}{came['503']:>9}{came['none']:>9}", flush=True)
+                print(f"{name:<28}{shown([growths, *(came[kind] for kind in KINDS)])}", flush=True)
             except Wrong as fault:
-                print(f"{name:<26} {fault}", flush=True)
+                print(f"{name:<28} {fault}", flush=True)
                 right = False
     return 0 if right else 1
 

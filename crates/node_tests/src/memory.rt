@@ -26,6 +26,14 @@ impl Before {
     pub fn is_unanswered(&self, peer: &Peer) -> bool {
         peer.answers() == self.answers
     }
+
+    /// Whether since then this was posted to this host and nothing else, and nothing was recorded.
+    pub fn is_followed_by(&self, peer: &Peer, host: &str, post: &[u8]) -> bool {
+        let next = self.posts.saturating_add(1);
+        peer.posts() == next
+            && peer.has_posted(next, host, post)
+            && peer.holds(self.file.as_slice())
+    }
 }
 
 pub fn stands(alloc: Global, net: &Net, node: usize) -> Result<Before, AllocError> {

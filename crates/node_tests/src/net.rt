@@ -158,7 +158,8 @@ impl Net {
         }
     }
 
-    fn take(&mut self, alloc: Global, node: usize, bytes: &[u8]) -> u16 {
+    /// What a node answers to a connection that brings these bytes, as `number` says it.
+    pub fn take(&mut self, alloc: Global, node: usize, bytes: &[u8]) -> u16 {
         match self.peers.get_mut(node.saturating_sub(1)) {
             Some(peer) => peer.take(alloc, bytes),
             None => 9,

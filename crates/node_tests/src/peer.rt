@@ -224,6 +224,17 @@ impl Peer {
         self.site.answers().len()
     }
 
+    /// Whether its last answer holds this text.
+    pub fn has_answered_with(&self, text: &str) -> bool {
+        match self.site.answers().last() {
+            Some(answer) => match str::from_utf8(answer.as_slice()) {
+                Ok(answer) => answer.contains(text),
+                Err(_) => false,
+            },
+            None => false,
+        }
+    }
+
     /// Whether the n-th answer, from 1, is this.
     pub fn has_answered(&self, n: usize, bytes: &[u8]) -> bool {
         match self.site.answers().get(n.saturating_sub(1)) {
