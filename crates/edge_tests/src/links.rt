@@ -350,3 +350,38 @@ fn the_oldest_makes_room(rt: HostRuntime) -> Result<(), Fail> {
     assert!(rt; right, "crowded");
     Ok(())
 }
+
+/// What a browser sends for a page.
+const PAGE: &[u8] =
+    b"POST /a HTTP/1.1\r\nHost: 127.0.0.1:9\r\nORIGIN: http://evil.example\r\nContent-Length: 3\r\n\r\nyes";
+
+const FORBIDDEN: &[u8] =
+    b"HTTP/1.1 403 Forbidden\r\nContent-Length: 0\r\nConnection: close\r\n\r\n";
+
+/// A page's request comes first; the next is served in its place, and the page is told that it may not.
+fn turns_away(alloc: Global) -> Result<bool, AllocError> {
+    let mut world = world(alloc);
+    world.peer(sender(alloc, 0, 0, PAGE)?)?;
+    world.peer(sender(alloc, 10, 10, WHOLE)?)?;
+    let mut system = MemorySystem::new(world);
+    let mut site = NodeSite::new(alloc, &mut system);
+    let attached = site.attach("d/j", "127.0.0.1:9").is_ok();
+    let served = hears(&mut site, WHOLE) && site.send(ANSWER).is_ok();
+    site.close();
+    site.leave();
+    let lost = site.lost();
+    drop(site);
+    match system.world().peers() {
+        [page, other] => Ok(
+            attached && served && lost == 0 && page.took() == FORBIDDEN && other.took() == ANSWER,
+        ),
+        _ => Ok(false),
+    }
+}
+
+#[test]
+fn a_page_has_no_turn(rt: HostRuntime) -> Result<(), Fail> {
+    let right = turns_away(rt.alloc())?;
+    assert!(rt; right, "a page");
+    Ok(())
+}
