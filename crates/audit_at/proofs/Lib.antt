@@ -1,0 +1,8 @@
+pub mod Ways
+pub mod Pushes
+pub mod Names
+pub mod Agreements
+pub mod Decodings
+pub mod JournalTexts
+pub mod FilesRead
+pub mod LinesRead

@@ -1,0 +1,8 @@
+pub mod Superiors
+pub mod Outcomes
+pub mod Verdicts
+pub mod Examples
+pub mod Audits
+pub mod JournalLines
+pub mod JournalReports
+pub mod Readings

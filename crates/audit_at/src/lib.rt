@@ -1,0 +1,20 @@
+//! The audit of several nodes' journals: whether the outcomes that they record agree, whatever the transactions, through any depth
+//! of interposition.
+#![tactic(auto)]
+
+pub mod audit;
+pub mod audited;
+pub mod item;
+pub mod journal_line;
+pub mod journal_lines;
+pub mod journals;
+pub mod log;
+pub mod named;
+pub mod outcome;
+pub mod outcomes;
+pub mod records;
+pub mod report;
+pub mod subordinate;
+pub mod superiors;
+pub mod verdict;
+pub mod verdicts;
