@@ -46,11 +46,7 @@ use Rattle.enlistments.proofs.Nodes.{NodesLaw, nodes_have}
 use Rattle.enlistments.proofs.Places.{IsPlaced}
 use Rattle.enlistments.proofs.Posts.{PostLaw, one_has}
 use Rattle.enlistments.proofs.StepNotices.{steps_tell}
-
-pub record IsLed (hosts : Hosts) (c : Epr) : Type 0 where
-  pub node : ℕ
-  pub target : Target
-  pub leads : LeadsTo hosts c node target
+use Rattle.recorded_runs.specs.JournalRecords.{IsLed, RecordLed}
 
 home : (hosts : Hosts) (n : ℕ) (T : Target) → HaveOwnAddresses hosts → IsNumber hosts n → IsWritten T → IsLed hosts (endpoint_of (hosts.base_of n) T)
 home hosts n T apart (least, most) h = record { node = n; target = T; leads = leads_home hosts n T apart least most h }
@@ -101,11 +97,6 @@ TransactionLed hosts t = (kind : Kind) → IsLedIfKnown hosts (coordinator_at ki
 
 abbrev LeafLed : Hosts → Leaf → Type 0
 LeafLed hosts l = IsLedIfKnown hosts l.coordinator
-
-abbrev pub RecordLed : Hosts → Record → Type 0
-RecordLed hosts (records.LeafPrepared id coordinator key value) = IsLed hosts coordinator
-RecordLed hosts (records.Voted id coordinator seats) = IsLed hosts coordinator
-RecordLed hosts other = Unit {0}
 
 abbrev Answered : Hosts → Event → Type 0
 Answered hosts e = (a : Arrived) (c : Epr) → e ≡ events.Arrived a → a.message ≡ messages.RegisterResponse c → IsLed hosts c
