@@ -3,6 +3,3 @@ pub mod Pushes
 pub mod Names
 pub mod Agreements
 pub mod Decodings
-pub mod JournalTexts
-pub mod FilesRead
-pub mod LinesRead

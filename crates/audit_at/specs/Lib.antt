@@ -3,6 +3,3 @@ pub mod Outcomes
 pub mod Verdicts
 pub mod Examples
 pub mod Audits
-pub mod JournalLines
-pub mod JournalReports
-pub mod Readings

@@ -1,5 +1,5 @@
 -- Which transactions voted to which, in the journals of several nodes (WS-AtomicTransaction 1.2, section 3.3).
-use Rattle.std.specs.Prelude.{ℕ, zero, suc, List, [], ◌∷◌, ◌++◌, Bool, false, ◌&&◌, ◌||◌, nat_eq, Option, Some, None, if◌then◌else◌, bytes_eq, length, unwrap_or}
+use Rattle.std.specs.Prelude.{ℕ, zero, suc, List, [], ◌∷◌, ◌++◌, Bool, false, ◌&&◌, ◌||◌, nat_eq, Option, Some, None, if◌then◌else◌, bytes_eq, length, option_map, unwrap_or}
 use Rattle.std.specs.List.{list_any}
 use Rattle.at_base.specs.Numbers.{Numbers}
 use Rattle.at_base.specs.declared.notice.Kind.{Kind}
@@ -26,17 +26,17 @@ abbrev pub is_item : Item → Item → Bool
 is_item a b = bytes_eq a.base b.base && is_id a.id b.id
 
 -- the transaction that has the durable seat
-abbrev pub of_kind : Item → Kind → Option Item
-of_kind item kinds.Durable = Some item
-of_kind item kinds.Volatile = None
+abbrev pub of_kind : Numbers → Kind → Option Numbers
+of_kind id kinds.Durable = Some id
+of_kind id kinds.Volatile = None
 
-abbrev pub with_seat : List ℕ → Option Target → Option Item
-with_seat base (Some (targets.Coordinator id seat)) = of_kind (item_at base id) seat.kind
-with_seat base other = None
+abbrev pub durable_seat : Option Target → Option Numbers
+durable_seat (Some (targets.Coordinator id seat)) = of_kind id seat.kind
+durable_seat other = None
 
 -- the same, of the node at this base
 abbrev pub named_at : List ℕ → List ℕ → Option Item
-named_at address base = with_seat base (target_at base address)
+named_at address base = option_map (item_at base) (durable_seat (target_at base address))
 
 -- of a node whose base goes on from there
 abbrev pub named_from : List ℕ → List ℕ → List ℕ → Option Item

@@ -3,17 +3,12 @@
 #![tactic(auto)]
 
 pub mod audit;
-pub mod audited;
 pub mod item;
-pub mod journal_line;
-pub mod journal_lines;
-pub mod journals;
 pub mod log;
 pub mod named;
 pub mod outcome;
 pub mod outcomes;
 pub mod records;
-pub mod report;
 pub mod subordinate;
 pub mod superiors;
 pub mod verdict;

@@ -3,9 +3,10 @@
 ghost use Rattle.std.specs.Prelude.{◌≡◌, IfOk};
 ghost use Rattle.std.specs.Option.{option_map};
 ghost use Rattle.endpoints.specs.Addresses.{slash, split_at};
-ghost use Rattle.audit_at.specs.Superiors.{named, named_at, with_seat};
+ghost use Rattle.audit_at.specs.Superiors.{durable_seat, item_at, named, named_at};
 
 use crate::item::Item;
+use at_base::id::Id;
 use at_base::notice::Kind;
 use at_base::target::Target;
 use at_base::text::Text;
@@ -18,26 +19,36 @@ fn at_slash(text: &str) -> Option<(&str, &str)>
     text.split_once('/')
 }
 
-/// The transaction of this target, where that is a durable seat.
-fn with_seat(alloc: Global, base: &str, target: Option<Target>) -> Result<Option<Item>, AllocError>
-    ensures { IfOk result (λ item. item ≡ with_seat base.now target) }
+/// The transaction whose durable seat this is.
+fn durable_seat(target: Option<Target>) -> Option<Id>
+    ensures { result ≡ durable_seat target }
 {
     match target {
         Some(Target::Coordinator { id, seat }) => match seat.kind {
-            Kind::Durable => {
-                let base = Text::copied(alloc, base)?;
-                Ok(Some(Item { base, id }))
-            }
-            Kind::Volatile => Ok(None),
+            Kind::Durable => Some(id),
+            Kind::Volatile => None,
         },
-        _ => Ok(None),
+        _ => None,
     }
+}
+
+fn item_at(alloc: Global, base: &str, id: Id) -> Result<Item, AllocError>
+    ensures { IfOk result (λ item. item ≡ item_at base.now id) }
+{
+    let base = Text::copied(alloc, base)?;
+    Ok(Item { base, id })
 }
 
 fn named_at(alloc: Global, address: &str, base: &str) -> Result<Option<Item>, AllocError>
     ensures { IfOk result (λ item. item ≡ named_at address.now base.now) }
 {
-    with_seat(alloc, base, target_at(base, address))
+    match durable_seat(target_at(base, address)) {
+        Some(id) => {
+            let item = item_at(alloc, base, id)?;
+            Ok(Some(item))
+        }
+        None => Ok(None),
+    }
 }
 
 /// The transaction that an address names as the one that accepted a durable registration. None where it names none.

@@ -1,5 +1,5 @@
 -- The address of a durable seat names its transaction, by the base of its node.
-use Rattle.std.specs.Prelude.{bytes_eq, codes, decimal, option_and_then, ◌≢◌}
+use Rattle.std.specs.Prelude.{bytes_eq, codes, decimal, option_and_then, option_map, ◌≢◌}
 use Rattle.std.proofs.Common.{ℕ, zero, suc, List, [], ◌∷◌, ◌++◌, ◌≡◌, ◌<◌, ◌+◌, ◌^◌, length, get_or, Bool, true, false, Option, Some, None, nat_eq, cond, sym, ap, subst, ◌∙◌, arith, refl}
 use Rattle.std.proofs.lemmas.Bool.{eqb-true}
 use Rattle.std.proofs.lemmas.List.{append_assoc, append-nil}
@@ -12,7 +12,7 @@ use Rattle.at_base.specs.declared.target.Target.TheVariants as targets
 use Rattle.endpoints.specs.Addresses.{IsWritten, after_prefix, or_else, path_of, slash, target_at, target_of}
 use Rattle.endpoints.proofs.Inverses.{behind_prefix, no_digit, paths_name_targets}
 use Rattle.endpoints.proofs.TextSplits.{Lacks}
-use Rattle.audit_at.specs.Superiors.{item_at, named, named_at, named_from, of_kind, with_seat}
+use Rattle.audit_at.specs.Superiors.{durable_seat, item_at, named, named_at, named_from, of_kind}
 use Rattle.audit_at.specs.declared.item.Item.{Item}
 
 -- how many slashes there are
@@ -113,13 +113,13 @@ seat_named : (address base : List ℕ) (item : Item) → named_at address base �
 seat_named address base item e = by_target (target_at base address) refl e
   where
     by_kind : (id : Numbers) (number : ℕ) (kind : Kind) → target_at base address ≡ Some (targets.Coordinator id (record { number = number; kind = kind }))
-        → of_kind (item_at base id) kind ≡ Some item → SeatAt address base item
+        → option_map (item_at base) (of_kind id kind) ≡ Some item → SeatAt address base item
     by_kind id number kinds.Durable f g =
         let same : item_at base id ≡ item = cc in
         record { id = id; number = number; target = f; is = sym same }
     by_kind id number kinds.Volatile f g = absurd cc
 
-    by_target : (o : Option Target) → target_at base address ≡ o → with_seat base o ≡ Some item → SeatAt address base item
+    by_target : (o : Option Target) → target_at base address ≡ o → option_map (item_at base) (durable_seat o) ≡ Some item → SeatAt address base item
     by_target None f g = absurd cc
     by_target (Some (targets.Coordinator id seat)) f g = by_kind id seat.number seat.kind f g
     by_target (Some targets.Activation) f g = absurd cc
@@ -149,7 +149,7 @@ named_there address base item only there front (b ∷ r) more e =
 
 pub names_seat : (address base : List ℕ) (id : Numbers) (k : ℕ) → target_at base address ≡ Some (targets.Coordinator id (record { number = k; kind = kinds.Durable }))
     → named address ≡ Some (item_at base id)
-names_seat address base id k e = ap (named_from address []) whole ∙ named_there address base (item_at base id) only (ap (with_seat base) e) [] base (seat_rest id k) refl
+names_seat address base id k e = ap (named_from address []) whole ∙ named_there address base (item_at base id) only (ap (λ o. option_map (item_at base) (durable_seat o)) e) [] base (seat_rest id k) refl
   where
     whole : address ≡ base ++ slash ∷ seat_rest id k
     whole = (at_target address base (seat_at id k) e).1

@@ -65,17 +65,18 @@ base_by : (base_of : ℕ → List ℕ) (xs : List Node) (count first n k : ℕ) 
     → x.base ≡ base_of k
 base_by base_of [] count first n k x h l e f = absurd cc
 base_by base_of (y ∷ xs) zero first n k x h l e f = absurd h
-base_by base_of (y ∷ xs) (suc count) first n k x (h, hs) l e f = by_test (nat_eq n 1) refl f
+base_by base_of (y ∷ xs) (suc count) first n k x (h, hs) l e f = by_test (base_by base_of xs count (first + 1) (n - 1) k x hs) (nat_eq n 1) refl f
   where
-    by_test : (c : Bool) → nat_eq n 1 ≡ c → (if c then Some y else nth (n - 1) xs) ≡ Some x → x.base ≡ base_of k
-    by_test true g f =
+    by_test : (1 ≤ n - 1 → first + 1 + (n - 1) ≡ k + 1 → nth (n - 1) xs ≡ Some x → x.base ≡ base_of k) → (c : Bool) → nat_eq n 1 ≡ c → (if c then Some y else nth (n - 1) xs) ≡ Some x
+        → x.base ≡ base_of k
+    by_test rest true g f =
         let one : n ≡ 1 = eqb-true n 1 g in
         let at : first ≡ k = omega (arith, e, one) in
         let same : y ≡ x = cc in
         sym (ap (λ (z : Node). z.base) same) ∙ h ∙ ap base_of at
-    by_test false g f =
+    by_test rest false g f =
         let other : n ≡ 1 → ⊥ = eqb-false n 1 g in
-        base_by base_of xs count (first + 1) (n - 1) k x hs (omega (arith, l, other)) (omega (arith, e, l, other)) f
+        rest (omega (arith, l, other)) (omega (arith, e, l, other)) f
 
 base_is : (hosts : Hosts) (w : World) → HaveOwnAddresses hosts → Reached hosts w → (n : ℕ) (x : Node) → nth n w.nodes ≡ Some x → x.base ≡ hosts.base_of n
 base_is hosts w apart reached n x found =
@@ -128,7 +129,7 @@ record VotedIn (base : List ℕ) (rs : List Record) (s : Subordinate) : Type 0 w
 
 voted_in : (base : List ℕ) (rs : List Record) (s : Subordinate) → IsIn s (subordinates_in base rs) → VotedIn base rs s
 voted_in base [] s i = absurd i
-voted_in base (r ∷ rest) s i = by_place (in_either s (subordinate_at base r rest) (subordinates_in base rest) i)
+voted_in base (r ∷ rest) s i = by_place (voted_in base rest s) (in_either s (subordinate_at base r rest) (subordinates_in base rest) i)
   where
     further : VotedIn base rest s → VotedIn base (r ∷ rest) s
     further v = record { id = v.id; superior = v.superior; seats = v.seats; stands = inr v.stands; item = v.item; up = v.up }
@@ -151,9 +152,9 @@ voted_in base (r ∷ rest) s i = by_place (in_either s (subordinate_at base r re
     here (records.Ended id) k = absurd k
     here (records.Done id) k = absurd k
 
-    by_place : IsIn s (subordinate_at base r rest) ⊎ IsIn s (subordinates_in base rest) → VotedIn base (r ∷ rest) s
-    by_place (inl k) = here r k
-    by_place (inr k) = further (voted_in base rest s k)
+    by_place : (IsIn s (subordinates_in base rest) → VotedIn base rest s) → IsIn s (subordinate_at base r rest) ⊎ IsIn s (subordinates_in base rest) → VotedIn base (r ∷ rest) s
+    by_place later (inl k) = here r k
+    by_place later (inr k) = further (later k)
 
 record VotedUnder (logs : List Log) (s : Subordinate) : Type 0 where
   log : Log
@@ -162,11 +163,11 @@ record VotedUnder (logs : List Log) (s : Subordinate) : Type 0 where
 
 voted_under : (logs : List Log) (s : Subordinate) → IsIn s (subordinates logs) → VotedUnder logs s
 voted_under [] s i = absurd i
-voted_under (log ∷ logs) s i = by_place (in_either s (subordinates_in log.base log.records) (subordinates logs) i)
+voted_under (log ∷ logs) s i = by_place (voted_under logs s) (in_either s (subordinates_in log.base log.records) (subordinates logs) i)
   where
-    by_place : IsIn s (subordinates_in log.base log.records) ⊎ IsIn s (subordinates logs) → VotedUnder (log ∷ logs) s
-    by_place (inl k) = record { log = log; among = inl refl; voted = voted_in log.base log.records s k }
-    by_place (inr k) = let v : VotedUnder logs s = voted_under logs s k in record { log = v.log; among = inr v.among; voted = v.voted }
+    by_place : (IsIn s (subordinates logs) → VotedUnder logs s) → IsIn s (subordinates_in log.base log.records) ⊎ IsIn s (subordinates logs) → VotedUnder (log ∷ logs) s
+    by_place later (inl k) = record { log = log; among = inl refl; voted = voted_in log.base log.records s k }
+    by_place later (inr k) = let v : VotedUnder logs s = later k in record { log = v.log; among = inr v.among; voted = v.voted }
 
 -- a subordinate of a world, and its superior
 pub record IsVoter (hosts : Hosts) (w : World) (s : Subordinate) : Type 0 where
@@ -244,21 +245,22 @@ record Rises (w : World) (g : AreRanked w) (x y : Who) : Type 0 where
 comes_up : (hosts : Hosts) (w : World) (logs : List Log) → Audits hosts w logs → (g : AreRanked w) (n : ℕ) (item from : Item) (x y : Who) → IsItemOf hosts item x → VotesUp w x → IsItemOf hosts from y
     → comes_to (subordinates logs) n item from ≡ true → Rises w g x y
 comes_up hosts w logs a g zero item from x y h xv k e = absurd cc
-comes_up hosts w logs a g (suc n) item from x y h xv k e = by_up (superior_of (subordinates logs) from) refl e
+comes_up hosts w logs a g (suc n) item from x y h xv k e = by_up (λ up t i. comes_up hosts w logs a g n item up x t h xv i) (superior_of (subordinates logs) from) refl e
   where
-    by_up : (o : Option Item) → superior_of (subordinates logs) from ≡ o → is_some_and (λ up. is_item up item || comes_to (subordinates logs) n item up) o ≡ true → Rises w g x y
-    by_up None f c = absurd cc
-    by_up (Some up) f c = by_test (is_item up item) refl c
+    by_up : ((up : Item) (t : Who) → IsItemOf hosts up t → comes_to (subordinates logs) n item up ≡ true → Rises w g x t) → (o : Option Item) → superior_of (subordinates logs) from ≡ o → is_some_and (λ up. is_item up item || comes_to (subordinates logs) n item up) o ≡ true → Rises w g x y
+    by_up later None f c = absurd cc
+    by_up later (Some up) f c = by_test (later up) (is_item up item) refl c
       where
         i : IsAbove hosts w y up
         i = above hosts w logs from up y a k f
 
-        by_test : (b : Bool) → is_item up item ≡ b → (b || comes_to (subordinates logs) n item up) ≡ true → Rises w g x y
-        by_test true f c =
+        by_test : ((t : Who) → IsItemOf hosts up t → comes_to (subordinates logs) n item up ≡ true → Rises w g x t) → (b : Bool) → is_item up item ≡ b
+            → (b || comes_to (subordinates logs) n item up) ≡ true → Rises w g x y
+        by_test go true f c =
             let same : i.superior ≡ x = who_is hosts a.distinct item i.superior x (subst (λ it. IsItemOf hosts it i.superior) (same_item up item f) i.is) h in
             record { votes = i.votes; less = g.rises x y xv i.votes (subst (λ t. IsUnder w t y) same i.under) }
-        by_test false f c =
-            let r : Rises w g x i.superior = comes_up hosts w logs a g n item up x i.superior h xv i.is c in
+        by_test go false f c =
+            let r : Rises w g x i.superior = go i.superior i.is c in
             let step : g.rank y < g.rank i.superior = g.rises i.superior y r.votes i.votes i.under in
             record { votes = i.votes; less = omega (arith, step, r.less) }
 
@@ -281,10 +283,10 @@ of_above w x root t (below s number i of) u = below s number i (of_above w s roo
 
 pub climbs : (hosts : Hosts) (w : World) (logs : List Log) → Audits hosts w logs → (n : ℕ) (item : Item) (x y : Who) → IsItemOf hosts item y → IsOf w x y → HasTop hosts w x (climb (subordinates logs) n item)
 climbs hosts w logs a zero item x y h of = record { root = y; is = h; of = of }
-climbs hosts w logs a (suc n) item x y h of = by_up (superior_of (subordinates logs) item) refl
+climbs hosts w logs a (suc n) item x y h of = by_up (λ it t i f. climbs hosts w logs a n it x t i f) (superior_of (subordinates logs) item) refl
   where
-    by_up : (o : Option Item) → superior_of (subordinates logs) item ≡ o → HasTop hosts w x (climb (subordinates logs) n (unwrap_or o item))
-    by_up None e = climbs hosts w logs a n item x y h of
-    by_up (Some up) e =
+    by_up : ((it : Item) (t : Who) → IsItemOf hosts it t → IsOf w x t → HasTop hosts w x (climb (subordinates logs) n it)) → (o : Option Item) → superior_of (subordinates logs) item ≡ o → HasTop hosts w x (climb (subordinates logs) n (unwrap_or o item))
+    by_up go None e = go item y h of
+    by_up go (Some up) e =
         let i : IsAbove hosts w y up = above hosts w logs item up y a h e in
-        climbs hosts w logs a n up x i.superior i.is (of_above w x y i.superior of i.under)
+        go up i.superior i.is (of_above w x y i.superior of i.under)

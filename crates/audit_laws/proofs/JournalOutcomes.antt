@@ -13,7 +13,6 @@ use Rattle.at_model.specs.World.{Hosts, Node, Who, World, nth}
 use Rattle.model_laws.specs.Agreement.{HasAborted, HasCommitted, IsIn, IsOf, below, itself}
 use Rattle.model_laws.proofs.RecoveryLaws.{same_id, self_id}
 use Rattle.agreement.specs.Sorts.{FitsRecord, Sort}
-use Rattle.agreement.specs.Sorts.Sort as sorts
 use Rattle.agreement.proofs.SeatedEntries.{in_either, one_of}
 use Rattle.votes.proofs.Lives.{world_laws}
 use Rattle.votes.proofs.SingleVotes.{same_node}
@@ -143,8 +142,8 @@ sort_of : (hosts : Hosts) (w : World) (logs : List Log) (n : ℕ) (x : Node) (r 
 sort_of hosts w logs n x r h i =
     one_of (FitsRecord ((world_laws hosts w h.audits.distinct h.audits.reached).sorted.sort n)) x.journal r ((world_laws hosts w h.audits.distinct h.audits.reached).sorted.nodes n x h.found).journal i
 
-two_sorts : (S : Sort) → S ≡ Below → S ≡ Root → ⊥
-two_sorts S e f = let g : Below ≡ Root = sym e ∙ f in cc
+two_sorts : (S : Sort) → S ≡ Sort.Subordinate → S ≡ Sort.Root → ⊥
+two_sorts S e f = let g : Sort.Subordinate ≡ Sort.Root = sym e ∙ f in cc
 
 vote_aborts : (hosts : Hosts) (w : World) (logs : List Log) (n : ℕ) (x : Node) (id : Numbers) (c : Epr) (seats : List Seated) (rest : List Record) → AtNode hosts w logs n x
     → LastOf x (records.Voted id c seats) rest → list_any (is_sub_committed id) rest ≡ false → list_any (is_ended id) rest ≡ true → HasAborted w (record { node = n; id = id })
@@ -209,11 +208,12 @@ one_has hosts w logs n x (records.Ended id) rest o h l i = absurd i
 journal_has : (hosts : Hosts) (w : World) (logs : List Log) (n : ℕ) (x : Node) (front rs : List Record) (o : Outcome) → AtNode hosts w logs n x → x.journal ≡ front ++ rs
     → IsIn o (outcomes_in (subordinates logs) x.base rs) → HasOutcome hosts w o
 journal_has hosts w logs n x front [] o h is i = absurd i
-journal_has hosts w logs n x front (r ∷ rest) o h is i = by_place (in_either o (outcomes_at (subordinates logs) x.base r rest) (outcomes_in (subordinates logs) x.base rest) i)
+journal_has hosts w logs n x front (r ∷ rest) o h is i = by_place (journal_has hosts w logs n x (front ++ r ∷ []) rest o h (is ∙ sym (append_assoc front (r ∷ []) rest))) (in_either o (outcomes_at (subordinates logs) x.base r rest) (outcomes_in (subordinates logs) x.base rest) i)
   where
-    by_place : IsIn o (outcomes_at (subordinates logs) x.base r rest) ⊎ IsIn o (outcomes_in (subordinates logs) x.base rest) → HasOutcome hosts w o
-    by_place (inl k) = one_has hosts w logs n x r rest o h (record { front = front; is = is }) k
-    by_place (inr k) = journal_has hosts w logs n x (front ++ r ∷ []) rest o h (is ∙ sym (append_assoc front (r ∷ []) rest)) k
+    by_place : (IsIn o (outcomes_in (subordinates logs) x.base rest) → HasOutcome hosts w o) → IsIn o (outcomes_at (subordinates logs) x.base r rest) ⊎ IsIn o (outcomes_in (subordinates logs) x.base rest)
+        → HasOutcome hosts w o
+    by_place later (inl k) = one_has hosts w logs n x r rest o h (record { front = front; is = is }) k
+    by_place later (inr k) = later k
 
 -- of all journals
 record FoundIn (subs : List Subordinate) (logs : List Log) (o : Outcome) : Type 0 where
@@ -223,11 +223,11 @@ record FoundIn (subs : List Subordinate) (logs : List Log) (o : Outcome) : Type 
 
 found_in : (subs : List Subordinate) (logs : List Log) (o : Outcome) → IsIn o (outcomes_under subs logs) → FoundIn subs logs o
 found_in subs [] o i = absurd i
-found_in subs (log ∷ logs) o i = by_place (in_either o (outcomes_in subs log.base log.records) (outcomes_under subs logs) i)
+found_in subs (log ∷ logs) o i = by_place (found_in subs logs o) (in_either o (outcomes_in subs log.base log.records) (outcomes_under subs logs) i)
   where
-    by_place : IsIn o (outcomes_in subs log.base log.records) ⊎ IsIn o (outcomes_under subs logs) → FoundIn subs (log ∷ logs) o
-    by_place (inl k) = record { log = log; among = inl refl; there = k }
-    by_place (inr k) = let f : FoundIn subs logs o = found_in subs logs o k in record { log = f.log; among = inr f.among; there = f.there }
+    by_place : (IsIn o (outcomes_under subs logs) → FoundIn subs logs o) → IsIn o (outcomes_in subs log.base log.records) ⊎ IsIn o (outcomes_under subs logs) → FoundIn subs (log ∷ logs) o
+    by_place later (inl k) = record { log = log; among = inl refl; there = k }
+    by_place later (inr k) = let f : FoundIn subs logs o = later k in record { log = f.log; among = inr f.among; there = f.there }
 
 pub has_outcome : (hosts : Hosts) (w : World) (logs : List Log) (o : Outcome) → Audits hosts w logs → IsIn o (outcomes_under (subordinates logs) logs) → HasOutcome hosts w o
 has_outcome hosts w logs o a i =

@@ -30,12 +30,12 @@ none_pass {A = A} p (x ∷ xs) h = by_test (p x) refl (none_pass p xs (λ y i. h
 
 passed : {A : Type 0} (p : A → Bool) (x : A) (xs : List A) → IsIn x (filter p xs) → IsIn x xs × (p x ≡ true)
 passed p x [] i = absurd i
-passed {A = A} p x (y ∷ xs) i = by_test (p y) refl i
+passed {A = A} p x (y ∷ xs) i = by_test (passed p x xs) (p y) refl i
   where
-    by_test : (c : Bool) → p y ≡ c → IsIn x (if c then y ∷ filter p xs else filter p xs) → IsIn x (y ∷ xs) × (p x ≡ true)
-    by_test true e (inl f) = (inl f, ap p f ∙ e)
-    by_test true e (inr k) = let (j, g) = passed p x xs k in (inr j, g)
-    by_test false e k = let (j, g) = passed p x xs k in (inr j, g)
+    by_test : (IsIn x (filter p xs) → IsIn x xs × (p x ≡ true)) → (c : Bool) → p y ≡ c → IsIn x (if c then y ∷ filter p xs else filter p xs) → IsIn x (y ∷ xs) × (p x ≡ true)
+    by_test rest true e (inl f) = (inl f, ap p f ∙ e)
+    by_test rest true e (inr k) = let (j, g) = rest k in (inr j, g)
+    by_test rest false e k = let (j, g) = rest k in (inr j, g)
 
 mapped : {A B : Type 0} (f : A → B) (y : B) (xs : List A) → IsIn y (map f xs) → (x : A) × IsIn x xs × (y ≡ f x)
 mapped f y [] i = absurd i
@@ -44,11 +44,11 @@ mapped f y (x ∷ xs) (inr i) = let (z, k, e) = mapped f y xs i in (z, inr k, e)
 
 among : (items : List Item) (top : Item) → is_among items top ≡ true → (x : Item) × IsIn x items × (is_item x top ≡ true)
 among [] top e = absurd cc
-among (x ∷ items) top e = by_test (is_item x top) refl e
+among (x ∷ items) top e = by_test (among items top) (is_item x top) refl e
   where
-    by_test : (c : Bool) → is_item x top ≡ c → (c || is_among items top) ≡ true → (y : Item) × IsIn y (x ∷ items) × (is_item y top ≡ true)
-    by_test true f g = (x, inl refl, f)
-    by_test false f g = let (y, i, k) = among items top g in (y, inr i, k)
+    by_test : (is_among items top ≡ true → (y : Item) × IsIn y items × (is_item y top ≡ true)) → (c : Bool) → is_item x top ≡ c → (c || is_among items top) ≡ true → (y : Item) × IsIn y (x ∷ items) × (is_item y top ≡ true)
+    by_test rest true f g = (x, inl refl, f)
+    by_test rest false f g = let (y, i, k) = rest g in (y, inr i, k)
 
 -- the tops of outcomes
 record TopOf (os : List Outcome) (top : Item) (committed : Bool) : Type 0 where

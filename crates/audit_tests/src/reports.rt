@@ -1,6 +1,6 @@
 //! Worked journals: what is printed of them, each cause of a bad line, the order of the causes, and files that are no journal.
 
-use audit_at::report::report;
+use audit_cmd::report::report;
 use std::alloc::{AllocError, Global};
 use std::test::Fail;
 

@@ -129,21 +129,21 @@ behind_vote (r ∷ front) vote rest id (h, hs) e (inl f) = absurd (subst (λ s. 
     among (x ∷ xs) = inr (among xs)
 
 -- what is live stands in the journal
-in_any : (p : Record → Bool) (rs : List Record) → list_any p rs ≡ true → (r : Record) × IsIn r rs × (p r ≡ true)
+pub in_any : (p : Record → Bool) (rs : List Record) → list_any p rs ≡ true → (r : Record) × IsIn r rs × (p r ≡ true)
 in_any p [] e = absurd cc
-in_any p (r ∷ rs) e = by_test (p r) refl e
+in_any p (r ∷ rs) e = by_test (p r) refl (in_any p rs) e
   where
-    by_test : (c : Bool) → p r ≡ c → (c || list_any p rs) ≡ true → (s : Record) × IsIn s (r ∷ rs) × (p s ≡ true)
-    by_test true f g = (r, inl refl, f)
-    by_test false f g = let (s, i, k) = in_any p rs g in (s, inr i, k)
+    by_test : (c : Bool) → p r ≡ c → (list_any p rs ≡ true → (s : Record) × IsIn s rs × (p s ≡ true)) → (c || list_any p rs) ≡ true → (s : Record) × IsIn s (r ∷ rs) × (p s ≡ true)
+    by_test true f rest g = (r, inl refl, f)
+    by_test false f rest g = let (s, i, k) = rest g in (s, inr i, k)
 
-its_commit : (id : Numbers) (r : Record) → is_sub_committed id r ≡ true → r ≡ records.SubCommitted id
+pub its_commit : (id : Numbers) (r : Record) → is_sub_committed id r ≡ true → r ≡ records.SubCommitted id
 its_commit id (records.SubCommitted i) e = ap records.SubCommitted (same_id i id e)
 its_commit id other e = absurd cc
 
 live_commit : (rs : List Record) (id : Numbers) → IsIn (records.SubCommitted id) (live rs) → IsIn (records.SubCommitted id) rs
 live_commit [] id i = i
-live_commit (r ∷ rs) id i = by_place (in_either (records.SubCommitted id) (kept r rs) (live rs) i)
+live_commit (r ∷ rs) id i = by_place (live_commit rs id) (in_either (records.SubCommitted id) (kept r rs) (live rs) i)
   where
     maybe : (c : Bool) (xs : List Record) → IsIn (records.SubCommitted id) (if c then [] else xs) → IsIn (records.SubCommitted id) xs
     maybe true xs h = absurd h
@@ -179,9 +179,10 @@ live_commit (r ∷ rs) id i = by_place (in_either (records.SubCommitted id) (kep
     of_kept (records.Ended j) h = absurd h
     of_kept (records.Done j) h = absurd h
 
-    by_place : IsIn (records.SubCommitted id) (kept r rs) ⊎ IsIn (records.SubCommitted id) (live rs) → IsIn (records.SubCommitted id) (r ∷ rs)
-    by_place (inl h) = inr (of_kept r h)
-    by_place (inr h) = inr (live_commit rs id h)
+    by_place : (IsIn (records.SubCommitted id) (live rs) → IsIn (records.SubCommitted id) rs) → IsIn (records.SubCommitted id) (kept r rs) ⊎ IsIn (records.SubCommitted id) (live rs)
+        → IsIn (records.SubCommitted id) (r ∷ rs)
+    by_place rest (inl h) = inr (of_kept r h)
+    by_place rest (inr h) = inr (rest h)
 
 live_decision : (rs : List Record) (id : Numbers) (r : Record) → IsIn r (live rs) → is_decided id r ≡ true → IsIn r rs
 live_decision rs id r i e =

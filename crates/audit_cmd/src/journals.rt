@@ -3,7 +3,7 @@
 ghost use Rattle.std.specs.Prelude.{◌≡◌, IfOk, OnOk, Some, option_map};
 ghost use Rattle.site_model.specs.Told.{with_file, written};
 ghost use Rattle.site_memory.specs.Sites.{told_of};
-ghost use Rattle.audit_at.specs.JournalReports.{JournalOf};
+ghost use Rattle.audit_cmd.specs.JournalReports.{JournalOf};
 
 use decision_log::fold::{FoldFault, fold};
 use journal_at::load::{LoadFault, load};

@@ -1,7 +1,7 @@
 use Rattle.std.proofs.Common.{◌≡◌, ◌≤◌, [], length}
 use Rattle.schedules.specs.Words.{lines_of}
-use Rattle.audit_at.specs.JournalLines.{lines_from}
-use Rattle.audit_at.proofs.journal_lines.read_all.Given as goal
+use Rattle.audit_cmd.specs.JournalLines.{lines_from}
+use Rattle.audit_cmd.proofs.journal_lines.read_all.Given as goal
 
 abbrev pub invariant-loop-line : goal.invariant-loop-line
 invariant-loop-line l = (lines_from l.lines.items l.number (lines_of l.rest) ≡ lines_from [] 1 (lines_of l.text)) × (l.number ≤ 9)

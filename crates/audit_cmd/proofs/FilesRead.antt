@@ -11,7 +11,7 @@ use Rattle.journal_at.specs.declared.journal.Journal.{Journal}
 use Rattle.journal_at.specs.declared.load.LoadFault.TheVariants as loaded
 use Rattle.journal_at.specs.declared.records.Records.{Records}
 use Rattle.journal_at.specs.Loads.{Fails, Opens}
-use Rattle.audit_at.specs.JournalReports.{IsBadJournal, Stands}
+use Rattle.audit_cmd.specs.JournalReports.{IsBadJournal, Stands}
 
 nothing_dropped : (n : ℕ) → drop {A = ℕ} n [] ≡ []
 nothing_dropped zero = refl

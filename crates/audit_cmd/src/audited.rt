@@ -12,7 +12,7 @@ pub struct Audited {
 }
 
 impl Model for Audited {
-    ghost use Rattle.audit_at.specs.JournalReports.{Audited};
+    ghost use Rattle.audit_cmd.specs.JournalReports.{Audited};
 
     ghost Value = { Audited };
 

@@ -7,9 +7,9 @@ use Rattle.journal_at.specs.Scans.{records_in}
 use Rattle.site_model.specs.Told.{Files}
 use Rattle.audit_at.specs.declared.verdict.Verdict.{Verdict}
 use Rattle.audit_at.specs.Audits.{AreLogsOf}
-use Rattle.audit_at.specs.JournalLines.{JournalLine}
-use Rattle.audit_at.specs.JournalReports.{AreStanding, Audited, Audits, IsBadJournal, IsBadJournalOf, IsVerdictOf, Stands, bad_journal, verdict_printed}
-use Rattle.audit_at.specs.Readings.{AreRead, IsUnread}
+use Rattle.audit_cmd.specs.JournalLines.{JournalLine}
+use Rattle.audit_cmd.specs.JournalReports.{AreStanding, Audited, Audits, IsBadJournal, IsBadJournalOf, IsVerdictOf, Stands, bad_journal, verdict_printed}
+use Rattle.audit_cmd.specs.Readings.{AreRead, IsUnread}
 use Rattle.audit_at.specs.Superiors.{Log}
 use Rattle.audit_at.specs.Verdicts.{verdict_of}
 

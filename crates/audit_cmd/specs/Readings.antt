@@ -1,10 +1,10 @@
 -- Lines whose files are read as journals.
 use Rattle.std.specs.Prelude.{ℕ, List, [], ◌∷◌, ◌++◌, ◌+◌, ◌≡◌, length}
 use Rattle.journal_at.specs.declared.records.Records.{Records}
-use Rattle.audit_at.specs.JournalLines.{JournalLine}
-use Rattle.audit_at.specs.JournalReports.{IsBadJournal, Stands}
-use Rattle.audit_at.specs.declared.report.Unread.{Unread}
-use Rattle.audit_at.specs.declared.report.Unread.TheVariants as unread
+use Rattle.audit_cmd.specs.JournalLines.{JournalLine}
+use Rattle.audit_cmd.specs.JournalReports.{IsBadJournal, Stands}
+use Rattle.audit_cmd.specs.declared.report.Unread.{Unread}
+use Rattle.audit_cmd.specs.declared.report.Unread.TheVariants as unread
 
 abbrev pub AreRead : List JournalLine → List (List ℕ × Records) → Type 0
 AreRead [] [] = Unit {0}

@@ -1,15 +1,15 @@
 //! What an audit prints of its input.
 
 ghost use Rattle.std.specs.Prelude.{◌≡◌, ◌++◌, ◌∷◌, [], Ok, IfOk, IfErr, OnOk, string_bytes};
-ghost use Rattle.audit_at.specs.JournalReports.{Audits, IsAuditOf, bad_journal, bad_line, named_item, verdict_printed};
-ghost use Rattle.audit_at.specs.Readings.{AreRead, IsWhy};
+ghost use Rattle.audit_cmd.specs.JournalReports.{Audits, IsAuditOf, bad_journal, bad_line, named_item, verdict_printed};
+ghost use Rattle.audit_cmd.specs.Readings.{AreRead, IsWhy};
 
-use crate::audit::audit;
+use audit_at::audit::audit;
 use crate::audited::Audited;
 use crate::journal_line::JournalLine;
 use crate::journal_lines::read_journals;
 use crate::journals::{JournalFault, journal_of};
-use crate::verdict::Verdict;
+use audit_at::verdict::Verdict;
 use at_base::id::Id;
 use at_base::text::Text;
 use journal_at::records::Records;

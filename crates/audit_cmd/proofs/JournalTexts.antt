@@ -5,7 +5,7 @@ use Rattle.schedules.specs.declared.line.Cause.TheVariants as causes
 use Rattle.schedules.specs.Meanings.{◌>>=◌}
 use Rattle.schedules.specs.Schedules.{at_line}
 use Rattle.schedules.specs.Words.{is_plain, words_of}
-use Rattle.audit_at.specs.JournalLines.{JournalLine, journal_line, journal_words, lines_from}
+use Rattle.audit_cmd.specs.JournalLines.{JournalLine, journal_line, journal_words, lines_from}
 
 pub goes_on : (lines : List JournalLine) (number : ℕ) (texts behind : List (List ℕ)) (text : List ℕ) (line : JournalLine)
     → texts ≡ text ∷ behind → at_line number (journal_line lines number text) ≡ Ok line

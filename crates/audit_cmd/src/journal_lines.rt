@@ -6,7 +6,7 @@ ghost use Rattle.schedules.specs.InitiatorLines.{is_base, is_plain_http};
 ghost use Rattle.schedules.specs.Schedules.{Answers, IfBad, at_line};
 ghost use Rattle.schedules.specs.Words.{lines_of};
 ghost use Rattle.schedules.specs.declared.line.ScheduleError.TheVariants.{Bad};
-ghost use Rattle.audit_at.specs.JournalLines.{ends_in_slash, fields, file_in, is_journal_base, is_taken, journal_line, journal_words, journals_of, lines_from, unless_taken};
+ghost use Rattle.audit_cmd.specs.JournalLines.{ends_in_slash, fields, file_in, is_journal_base, is_taken, journal_line, journal_words, journals_of, lines_from, unless_taken};
 
 use crate::journal_line::JournalLine;
 use at_base::limits::MOST_BASE;

@@ -14,7 +14,7 @@ pub struct JournalLine {
 }
 
 impl Model for JournalLine {
-    ghost use Rattle.audit_at.specs.JournalLines.{JournalLine};
+    ghost use Rattle.audit_cmd.specs.JournalLines.{JournalLine};
 
     ghost Value = { JournalLine };
 

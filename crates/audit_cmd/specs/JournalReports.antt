@@ -14,11 +14,11 @@ use Rattle.journal_at.specs.declared.version.Version.{Version}
 use Rattle.schedules.specs.Causes.{number_of_cause}
 use Rattle.schedules.specs.declared.line.BadLine.{BadLine}
 use Rattle.site_model.specs.Told.{Files}
-use Rattle.audit_at.specs.JournalLines.{JournalLine, journals_of}
+use Rattle.audit_cmd.specs.JournalLines.{JournalLine, journals_of}
 use Rattle.audit_at.specs.Superiors.{Log}
 use Rattle.audit_at.specs.Verdicts.{verdict_of}
-use Rattle.audit_at.specs.declared.journals.JournalFault.{JournalFault}
-use Rattle.audit_at.specs.declared.journals.JournalFault.TheVariants as faults
+use Rattle.audit_cmd.specs.declared.journals.JournalFault.{JournalFault}
+use Rattle.audit_cmd.specs.declared.journals.JournalFault.TheVariants as faults
 use Rattle.audit_at.specs.declared.verdict.Verdict.{Verdict}
 use Rattle.audit_at.specs.declared.verdict.Verdict.TheVariants as verdicts
 

@@ -1,0 +1,3 @@
+pub mod JournalTexts
+pub mod FilesRead
+pub mod LinesRead
