@@ -3,3 +3,4 @@ pub mod Pushes
 pub mod Names
 pub mod Agreements
 pub mod Decodings
+pub mod Adds

@@ -1,3 +1,4 @@
 pub mod JournalTexts
 pub mod FilesRead
 pub mod LinesRead
+pub mod Printed

@@ -3,6 +3,8 @@ use Rattle.std.specs.Prelude.{ℕ, List, [], ◌∷◌, ◌++◌, ◌+◌, ◌�
 use Rattle.journal_at.specs.declared.records.Records.{Records}
 use Rattle.audit_cmd.specs.JournalLines.{JournalLine}
 use Rattle.audit_cmd.specs.JournalReports.{IsBadJournal, Stands}
+use Rattle.audit_cmd.specs.declared.journals.JournalFault.{JournalFault}
+use Rattle.audit_cmd.specs.declared.journals.JournalFault.TheVariants as faults
 use Rattle.audit_cmd.specs.declared.report.Unread.{Unread}
 use Rattle.audit_cmd.specs.declared.report.Unread.TheVariants as unread
 
@@ -26,3 +28,8 @@ pub record IsUnread (number file place : ℕ) (lines : List JournalLine) : Type 
 abbrev pub IsWhy : Unread → List JournalLine → Type 0
 IsWhy unread.NoMemory lines = Unit {0}
 IsWhy (unread.Bad number file place) lines = IsUnread number file place lines
+
+-- why the line of this number wasn't read
+abbrev pub unread_at : ℕ → JournalFault → Unread
+unread_at number faults.NoMemory = unread.NoMemory
+unread_at number (faults.Bad file place) = unread.Bad number file place

@@ -1,6 +1,6 @@
 //! The command `audit`.
 
-ghost use Rattle.std.specs.Prelude.{ℕ, List, ◌≡◌, ◌+◌, ◌<◌, ◌≤◌, IsTrue, IfSome, nat_eq, length, take, ◌∷◌, []};
+ghost use Rattle.std.specs.Prelude.{ℕ, ◌≡◌, ◌≢◌, ◌+◌, ◌<◌, ◌≤◌, IsTrue, IfSome, nat_eq, length, take, ◌∷◌, []};
 ghost use Rattle.std.specs.Io.KnownBytes.{Appends};
 ghost use Rattle.std.specs.List.{list_any};
 ghost use Rattle.site_model.specs.Counts.{capped, RisesBy, Rose};
@@ -25,10 +25,12 @@ pub const NO_MEMORY: u8 = 9;
 pub const TOO_LONG: u8 = 10;
 
 /// Writes what was made in memory, and gives its status.
+#[tactic(auto, using(crate::proofs::Printed::with_five, crate::proofs::Printed::not_five))]
 fn print<K: Sink>(sink: &mut K, audited: &Audited) -> u8
-    ensures statuses { IsTrue (list_any (nat_eq result) (audited.now.status ∷ 5 ∷ [])) }
-    ensures cause { result ≡ 5 → IsTrue (list_any (nat_eq audited.now.status) (0 ∷ 3 ∷ 7 ∷ 13 ∷ 14 ∷ [])) → Rose (K.faults sink.old) (K.faults sink.new) }
-    ensures all { result ≡ audited.now.status → IsTrue (list_any (nat_eq audited.now.status) (0 ∷ 3 ∷ 7 ∷ 13 ∷ 14 ∷ [])) → Appends (K.contents sink.old) (K.contents sink.new) audited.now.text }
+    requires { IsTrue (list_any (nat_eq audited.now.status) (0 ∷ 3 ∷ 7 ∷ 13 ∷ 14 ∷ [])) }
+    ensures statuses { IsTrue (list_any (nat_eq result) (0 ∷ 3 ∷ 5 ∷ 7 ∷ 13 ∷ 14 ∷ [])) }
+    ensures cause { result ≡ 5 → Rose (K.faults sink.old) (K.faults sink.new) }
+    ensures all { result ≢ 5 → (result ≡ audited.now.status) × Appends (K.contents sink.old) (K.contents sink.new) audited.now.text }
     ensures part { (n : ℕ) × ((n ≤ length audited.now.text) × Appends (K.contents sink.old) (K.contents sink.new) (take n audited.now.text)) }
 {
     match write_all(sink, audited.as_slice()) {
@@ -42,6 +44,7 @@ fn print<K: Sink>(sink: &mut K, audited: &Audited) -> u8
 /// The source holds a line `journal BASE HEX0 HEX1` for each node, 1 to 8: its base, and the two files of its journal in hexadecimal,
 /// `-` for an empty one. 0: no two outcomes differ that are recorded under one transaction. 13: some differ. 14: the superiors of a
 /// transaction come back to it. 3: a line is bad. 7: files are no journal. All that is printed is made in memory before the first write.
+#[tactic(auto, using(crate::proofs::Printed::status_of, crate::proofs::Printed::with_reads, crate::proofs::Printed::all_given, crate::proofs::Printed::all_printed, crate::proofs::Printed::part_printed))]
 pub fn audit<S: Source, K: Sink>(alloc: Global, source: &mut S, sink: &mut K) -> u8
     ensures statuses { IsTrue (list_any (nat_eq result) (0 ∷ 3 ∷ 4 ∷ 5 ∷ 7 ∷ 9 ∷ 10 ∷ 13 ∷ 14 ∷ [])) }
     ensures source_failed { result ≡ 4 → Rose (S.faults source.old) (S.faults source.new) }

@@ -2,7 +2,7 @@
 
 ghost use Rattle.std.specs.Prelude.{◌≡◌, ◌++◌, ◌∷◌, [], Ok, IfOk, IfErr, OnOk, string_bytes};
 ghost use Rattle.audit_cmd.specs.JournalReports.{Audits, IsAuditOf, bad_journal, bad_line, named_item, verdict_printed};
-ghost use Rattle.audit_cmd.specs.Readings.{AreRead, IsWhy};
+ghost use Rattle.audit_cmd.specs.Readings.{AreRead, IsWhy, unread_at};
 
 use audit_at::audit::audit;
 use crate::audited::Audited;
@@ -85,6 +85,20 @@ pub enum Unread {
     Bad { number: usize, file: u8, place: u64 },
 }
 
+/// Why the line of this number wasn't read.
+fn unread(number: usize, fault: &JournalFault) -> Unread
+    ensures { result ≡ unread_at number fault.now }
+{
+    match fault {
+        JournalFault::NoMemory => Unread::NoMemory,
+        JournalFault::Bad { file, place } => Unread::Bad {
+            number,
+            file: *file,
+            place: *place,
+        },
+    }
+}
+
 fn push(
     journals: &mut Vec<(Text, Records)>,
     base: &Text,
@@ -111,12 +125,7 @@ fn read_all(alloc: Global, lines: &[JournalLine]) -> Result<Vec<(Text, Records)>
                     return Err(Unread::NoMemory);
                 }
             }
-            Err(JournalFault::NoMemory) => return Err(Unread::NoMemory),
-            Err(JournalFault::Bad { file, place }) => return Err(Unread::Bad {
-                number,
-                file,
-                place,
-            }),
+            Err(fault) => return Err(unread(number, &fault)),
         }
         number += 1;
     }
@@ -130,7 +139,8 @@ fn audited(alloc: Global, lines: &[JournalLine]) -> Result<Audited, AllocError>
     match read_all(alloc, lines) {
         Ok(journals) => {
             let verdict = audit(alloc, journals.as_slice())?;
-            verdict_printed(alloc, &verdict)
+            let audited = verdict_printed(alloc, &verdict)?;
+            Ok(audited)
         }
         Err(Unread::NoMemory) => Err(AllocError),
         Err(
