@@ -1,6 +1,3 @@
-pub mod LedCoordinators
-pub mod RecordedEnds
-pub mod VoteOrder
 pub mod Addresses
 pub mod JournalItems
 pub mod JournalOutcomes
