@@ -39,11 +39,11 @@ with_five s h = by_one (one_of s ends h)
     as_known n k e = subst (λ m. IsTrue (list_any (nat_eq m) (0 ∷ 3 ∷ 5 ∷ 7 ∷ 13 ∷ 14 ∷ []))) (sym e) k
 
     by_one : OneOf s (0 ∷ 3 ∷ 7 ∷ 13 ∷ 14 ∷ []) → IsTrue (list_any (nat_eq s) (0 ∷ 3 ∷ 5 ∷ 7 ∷ 13 ∷ 14 ∷ []))
-    by_one (inl e) = as_known 0 tt e
-    by_one (inr (inl e)) = as_known 3 tt e
-    by_one (inr (inr (inl e))) = as_known 7 tt e
-    by_one (inr (inr (inr (inl e)))) = as_known 13 tt e
-    by_one (inr (inr (inr (inr (inl e))))) = as_known 14 tt e
+    by_one (inl e) = as_known 0 refl e
+    by_one (inr (inl e)) = as_known 3 refl e
+    by_one (inr (inr (inl e))) = as_known 7 refl e
+    by_one (inr (inr (inr (inl e)))) = as_known 13 refl e
+    by_one (inr (inr (inr (inr (inl e))))) = as_known 14 refl e
     by_one (inr (inr (inr (inr (inr h))))) = absurd h
 
 pub with_reads : (s : ℕ) → IsTrue (list_any (nat_eq s) (0 ∷ 3 ∷ 5 ∷ 7 ∷ 13 ∷ 14 ∷ [])) → IsTrue (list_any (nat_eq s) (0 ∷ 3 ∷ 4 ∷ 5 ∷ 7 ∷ 9 ∷ 10 ∷ 13 ∷ 14 ∷ []))
@@ -53,12 +53,12 @@ with_reads s h = by_one (one_of s (0 ∷ 3 ∷ 5 ∷ 7 ∷ 13 ∷ 14 ∷ []) h)
     as_known n k e = subst (λ m. IsTrue (list_any (nat_eq m) (0 ∷ 3 ∷ 4 ∷ 5 ∷ 7 ∷ 9 ∷ 10 ∷ 13 ∷ 14 ∷ []))) (sym e) k
 
     by_one : OneOf s (0 ∷ 3 ∷ 5 ∷ 7 ∷ 13 ∷ 14 ∷ []) → IsTrue (list_any (nat_eq s) (0 ∷ 3 ∷ 4 ∷ 5 ∷ 7 ∷ 9 ∷ 10 ∷ 13 ∷ 14 ∷ []))
-    by_one (inl e) = as_known 0 tt e
-    by_one (inr (inl e)) = as_known 3 tt e
-    by_one (inr (inr (inl e))) = as_known 5 tt e
-    by_one (inr (inr (inr (inl e)))) = as_known 7 tt e
-    by_one (inr (inr (inr (inr (inl e))))) = as_known 13 tt e
-    by_one (inr (inr (inr (inr (inr (inl e)))))) = as_known 14 tt e
+    by_one (inl e) = as_known 0 refl e
+    by_one (inr (inl e)) = as_known 3 refl e
+    by_one (inr (inr (inl e))) = as_known 5 refl e
+    by_one (inr (inr (inr (inl e)))) = as_known 7 refl e
+    by_one (inr (inr (inr (inr (inl e))))) = as_known 13 refl e
+    by_one (inr (inr (inr (inr (inr (inl e)))))) = as_known 14 refl e
     by_one (inr (inr (inr (inr (inr (inr h)))))) = absurd h
 
 -- the status of an audit
@@ -66,14 +66,14 @@ abbrev HasEnd : Audited → Type 0
 HasEnd audited = IsTrue (list_any (nat_eq audited.status) (0 ∷ 3 ∷ 7 ∷ 13 ∷ 14 ∷ []))
 
 of_verdict : (v : Verdict) → HasEnd (verdict_printed v)
-of_verdict (verdicts.Agreed committed aborted) = tt
-of_verdict (verdicts.Split base id) = tt
-of_verdict (verdicts.Cycle base id) = tt
+of_verdict (verdicts.Agreed committed aborted) = refl
+of_verdict (verdicts.Split base id) = refl
+of_verdict (verdicts.Cycle base id) = refl
 
 of_audit : (r : Result (List JournalLine) BadLine) (audited : Audited) → Audits r audited → HasEnd audited
 of_audit (Ok lines) audited (inl v) = subst HasEnd (sym v.is) (of_verdict (verdict_of v.logs))
-of_audit (Ok lines) audited (inr b) = subst HasEnd (sym b.printed) tt
-of_audit (Err bad) audited e = subst HasEnd (sym e) tt
+of_audit (Ok lines) audited (inr b) = subst HasEnd (sym b.printed) refl
+of_audit (Err bad) audited e = subst HasEnd (sym e) refl
 
 pub status_of : (input : List ℕ) (audited : Audited) → IsAuditOf input audited → IsTrue (list_any (nat_eq audited.status) (0 ∷ 3 ∷ 7 ∷ 13 ∷ 14 ∷ []))
 status_of input audited h = of_audit (journals_of input) audited h

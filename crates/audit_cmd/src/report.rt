@@ -86,7 +86,7 @@ pub enum Unread {
 }
 
 /// Why the line of this number wasn't read.
-fn unread(number: usize, fault: &JournalFault) -> Unread
+fn why_unread(number: usize, fault: &JournalFault) -> Unread
     ensures { result ≡ unread_at number fault.now }
 {
     match fault {
@@ -125,7 +125,7 @@ fn read_all(alloc: Global, lines: &[JournalLine]) -> Result<Vec<(Text, Records)>
                     return Err(Unread::NoMemory);
                 }
             }
-            Err(fault) => return Err(unread(number, &fault)),
+            Err(fault) => return Err(why_unread(number, &fault)),
         }
         number += 1;
     }
