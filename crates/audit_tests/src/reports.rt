@@ -1,6 +1,7 @@
 //! Worked journals: what is printed of them, each cause of a bad line, the order of the causes, and files that are no journal.
 
-use audit_cmd::report::report;
+use audit_cmd::audit::audit;
+use site_model::memory::{MemSink, MemSource};
 use std::alloc::{AllocError, Global};
 use std::test::Fail;
 
@@ -188,8 +189,10 @@ const ROWS: &[(&[u8], u8, &[u8])] = &[
 ];
 
 fn is_printed(alloc: Global, input: &[u8], status: u8, text: &[u8]) -> Result<bool, AllocError> {
-    let audited = report(alloc, input)?;
-    Ok(audited.status() == status && audited.as_slice() == text)
+    let mut source = MemSource::new(alloc, input)?;
+    let mut sink = MemSink::new(alloc);
+    let ended = audit(alloc, &mut source, &mut sink);
+    Ok(ended == status && sink.as_slice() == text)
 }
 
 #[test]
@@ -198,5 +201,26 @@ fn each_input_has_its_report(rt: HostRuntime) -> Result<(), Fail> {
         let is_printed = is_printed(rt.alloc(), input, *status, text)?;
         assert!(rt; is_printed, "row {number}");
     }
+    Ok(())
+}
+
+/// The status where this call of the source fails, and this one of the sink; and how many bytes were written.
+fn disturbed(alloc: Global, reading: u32, writing: u32) -> Result<(u8, usize), AllocError> {
+    let mut source = MemSource::new(alloc, b"journal http://n2.example - -\n")?;
+    source.fail(reading);
+    let mut sink = MemSink::new(alloc);
+    sink.fail(writing);
+    let status = audit(alloc, &mut source, &mut sink);
+    Ok((status, sink.as_slice().len()))
+}
+
+#[test]
+fn faults_of_source_and_sink_are_told(rt: HostRuntime) -> Result<(), Fail> {
+    let unread = disturbed(rt.alloc(), 1, 0)?;
+    assert!(rt; unread == (4, 0));
+    let torn = disturbed(rt.alloc(), 2, 0)?;
+    assert!(rt; torn == (4, 0));
+    let unwritten = disturbed(rt.alloc(), 0, 1)?;
+    assert!(rt; unwritten == (5, 0));
     Ok(())
 }
