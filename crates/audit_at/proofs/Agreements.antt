@@ -1,16 +1,14 @@
 -- Where outcomes agree, none under one top differ.
-use Rattle.std.proofs.Common.{ℕ, List, [], ◌∷◌, ◌≡◌, ◌∙◌, ◌⊎◌, inl, inr, Bool, true, false, not, ◌&&◌, ◌||◌, Option, Some, None, sym, ap, refl, cond, eq-eqb}
-use Rattle.std.specs.Prelude.{bytes_eq, filter, map, nat_eq}
-use Rattle.std.specs.List.{list_any}
+use Rattle.std.proofs.Common.{ℕ, List, [], ◌∷◌, ◌≡◌, ◌∙◌, ◌⊎◌, inl, inr, Bool, true, false, not, ◌||◌, Option, Some, None, sym, ap, refl, cond, eq-eqb}
+use Rattle.std.specs.Prelude.{filter, map}
 use Rattle.std.proofs.lemmas.Slice.Eq.{bytes_eq-Decides}
 use Rattle.model_laws.specs.Agreement.{IsIn}
 use Rattle.audit_at.specs.declared.item.Item.{Item}
 use Rattle.audit_at.specs.declared.outcome.Outcome.{Outcome}
-use Rattle.audit_at.specs.declared.verdict.Verdict.{Verdict}
 use Rattle.audit_at.specs.declared.verdict.Verdict.TheVariants as verdicts
 use Rattle.audit_at.specs.Outcomes.{outcomes}
-use Rattle.audit_at.specs.Superiors.{Log, is_item, subordinates}
-use Rattle.audit_at.specs.Verdicts.{AgreedIsWhole, aborted_tops, committed_tops, is_among, least, least_from, lesser, cycle_or, cycles, splits, split_or_agreed, verdict_of}
+use Rattle.audit_at.specs.Superiors.{is_item, subordinates}
+use Rattle.audit_at.specs.Verdicts.{AgreedIsWhole, aborted_tops, committed_tops, is_among, least, least_from, lesser, cycle_or, cycles, splits, split_or_agreed}
 
 kept : (x : Item) (xs : List Item) → least_from (Some x) xs ≡ None → ⊥
 kept x [] e = absurd cc

@@ -1,5 +1,5 @@
 -- Ways up, step by step.
-use Rattle.std.proofs.Common.{ℕ, zero, suc, List, ◌≡◌, ◌<◌, ◌-◌, ◌∙◌, ◌||◌, Bool, true, false, Option, Some, None, unwrap_or, sym, ap, arith, refl}
+use Rattle.std.proofs.Common.{ℕ, zero, suc, List, ◌≡◌, ◌<◌, ◌-◌, ◌∙◌, ◌||◌, Bool, true, false, Some, None, unwrap_or, sym, ap, arith, refl}
 use Rattle.audit_at.specs.declared.item.Item.{Item}
 use Rattle.audit_at.specs.declared.subordinate.Subordinate.{Subordinate}
 use Rattle.audit_at.specs.Superiors.{climb, comes_to, is_item, is_some_and, superior_of}

@@ -3,7 +3,6 @@ use Rattle.std.specs.Prelude.{ℕ, List, [], ◌∷◌, ◌≡◌, Some, None, c
 use Rattle.std.specs.Fmt.{digits}
 use Rattle.at_base.specs.Numbers.{Numbers}
 use Rattle.at_base.specs.declared.epr.Epr.{Epr}
-use Rattle.at_base.specs.declared.record.Seated.{Seated}
 use Rattle.at_base.specs.declared.record.Record.TheVariants as records
 use Rattle.audit_at.specs.declared.verdict.Verdict.TheVariants as verdicts
 use Rattle.audit_at.specs.Superiors.{Log, item_at, named}

@@ -1,5 +1,5 @@
 -- What the journals of several nodes say of their transactions together: that all outcomes agree, or where not.
-use Rattle.std.specs.Prelude.{ℕ, List, [], ◌∷◌, ◌++◌, ◌≡◌, Bool, not, Option, Some, None, if◌then◌else◌, filter, length, map}
+use Rattle.std.specs.Prelude.{ℕ, List, [], ◌∷◌, ◌≡◌, Bool, not, Option, Some, None, if◌then◌else◌, filter, length, map}
 use Rattle.std.specs.List.{list_any}
 use Rattle.std.specs.Cmp.Lexicographic.{slice_cmp}
 use Rattle.std.specs.Ordering.{is_lt, nat_cmp, ordering_then}

@@ -1,5 +1,5 @@
 -- Two files on a machine in memory, read as a journal.
-use Rattle.std.proofs.Common.{ℕ, List, [], ◌∷◌, ◌++◌, ◌≡◌, ◌+◌, inl, inr, sym, ◌∙◌, ap, drop, length, refl, Option, Some, Ok, Err, zero, suc}
+use Rattle.std.proofs.Common.{ℕ, List, [], ◌++◌, ◌≡◌, ◌+◌, inl, inr, ◌∙◌, ap, drop, length, refl, Option, Some, Ok, Err, zero, suc}
 use Rattle.std.specs.Prelude.{option_map}
 use Rattle.std.proofs.lemmas.List.{append-nil}
 use Rattle.site_model.specs.Told.{Files, Made, Told, Is, with_file, written}

@@ -1,5 +1,5 @@
 -- Lines read one by one are the lines of the whole.
-use Rattle.std.proofs.Common.{ℕ, List, [], ◌∷◌, ◌++◌, ◌≡◌, ◌≤◌, ◌+◌, nat_lt, not, Bool, true, false, cond, Result, Ok, Err, ◌∙◌, ap, arith, refl}
+use Rattle.std.proofs.Common.{ℕ, List, [], ◌∷◌, ◌++◌, ◌≡◌, ◌≤◌, ◌+◌, nat_lt, not, Bool, true, false, cond, Ok, Err, ◌∙◌, ap, arith, refl}
 use Rattle.std.proofs.lemmas.Bool.Decides.{nat_tests}
 use Rattle.schedules.specs.declared.line.Cause.TheVariants as causes
 use Rattle.schedules.specs.Meanings.{◌>>=◌}

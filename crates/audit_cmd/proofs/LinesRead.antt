@@ -1,14 +1,12 @@
 -- Lines whose files are read one by one.
 use Rattle.std.proofs.Common.{ℕ, List, [], ◌∷◌, ◌++◌, ◌≡◌, ◌+◌, ◌<◌, ◌≤◌, ◌⊎◌, Err, inl, inr, sym, ◌∙◌, ap, subst, take, drop, length, get_or, refl, arith}
 use Rattle.std.proofs.lemmas.List.{append_assoc, length-take-le, take-append-drop, take_all, take_more}
-use Rattle.at_base.specs.declared.record.Record.{Record}
 use Rattle.journal_at.specs.declared.records.Records.{Records}
 use Rattle.journal_at.specs.Scans.{records_in}
-use Rattle.site_model.specs.Told.{Files}
 use Rattle.audit_at.specs.declared.verdict.Verdict.{Verdict}
 use Rattle.audit_at.specs.Audits.{AreLogsOf}
 use Rattle.audit_cmd.specs.JournalLines.{JournalLine}
-use Rattle.audit_cmd.specs.JournalReports.{AreStanding, Audited, Audits, IsBadJournal, IsBadJournalOf, IsVerdictOf, JournalOf, Stands, bad_journal, verdict_printed}
+use Rattle.audit_cmd.specs.JournalReports.{AreStanding, Audited, IsBadJournal, IsBadJournalOf, IsVerdictOf, JournalOf, Stands, bad_journal, verdict_printed}
 use Rattle.audit_cmd.specs.Readings.{AreRead, IsUnread, IsWhy, unread_at}
 use Rattle.audit_cmd.specs.declared.journals.JournalFault.{JournalFault}
 use Rattle.audit_cmd.specs.declared.journals.JournalFault.TheVariants as faults

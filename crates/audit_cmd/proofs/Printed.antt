@@ -1,5 +1,5 @@
 -- What was read and printed, and the status.
-use Rattle.std.proofs.Common.{◌≡◌, ◌≢◌, ℕ, List, [], ◌∷◌, ◌⊎◌, inl, inr, Bool, true, false, Option, Some, None, IsTrue, IfSome, Result, Ok, Err, length, take, nat_eq, ◌≤◌, ◌||◌, refl, sym, subst, ◌∙◌}
+use Rattle.std.proofs.Common.{◌≡◌, ℕ, List, [], ◌∷◌, ◌⊎◌, inl, inr, Bool, true, false, Option, Some, None, IsTrue, IfSome, Result, Ok, Err, length, take, nat_eq, ◌≤◌, ◌||◌, refl, sym, subst, ◌∙◌}
 use Rattle.std.proofs.lemmas.Bool.{eqb-true}
 use Rattle.std.specs.List.{list_any}
 use Rattle.std.specs.Io.KnownBytes.{Appends}
@@ -11,7 +11,7 @@ use Rattle.audit_at.specs.declared.verdict.Verdict.{Verdict}
 use Rattle.audit_at.specs.declared.verdict.Verdict.TheVariants as verdicts
 use Rattle.audit_cmd.specs.Audits.{IsAudited, IsAuditedInPart}
 use Rattle.audit_cmd.specs.JournalLines.{JournalLine, journals_of}
-use Rattle.audit_cmd.specs.JournalReports.{Audited, Audits, IsAuditOf, IsBadJournalOf, IsVerdictOf, verdict_printed}
+use Rattle.audit_cmd.specs.JournalReports.{Audited, Audits, IsAuditOf, verdict_printed}
 
 -- statuses
 abbrev OneOf : ℕ → List ℕ → Type 0

@@ -1,5 +1,5 @@
 -- What an audit prints of its lines, and the status that it ends with.
-use Rattle.std.specs.Prelude.{ℕ, List, [], ◌∷◌, ◌++◌, ◌+◌, ◌≡◌, ◌⊎◌, codes, decimal, length, Option, Result, Ok, Err}
+use Rattle.std.specs.Prelude.{ℕ, List, [], ◌∷◌, ◌++◌, ◌+◌, ◌≡◌, ◌⊎◌, codes, decimal, length, Result, Ok, Err}
 use Rattle.at_base.specs.IdText.{id_text}
 use Rattle.at_base.specs.Numbers.{Numbers}
 use Rattle.at_base.specs.declared.record.Record.{Record}

@@ -4,14 +4,14 @@ ghost use Rattle.std.specs.Prelude.{◌≡◌, ◌++◌, ◌∷◌, [], Ok, IfOk
 ghost use Rattle.audit_cmd.specs.JournalReports.{Audits, IsAuditOf, bad_journal, bad_line, named_item, verdict_printed};
 ghost use Rattle.audit_cmd.specs.Readings.{AreRead, IsWhy, unread_at};
 
-use audit_at::audit::audit;
 use crate::audited::Audited;
 use crate::journal_line::JournalLine;
 use crate::journal_lines::read_journals;
 use crate::journals::{JournalFault, journal_of};
-use audit_at::verdict::Verdict;
 use at_base::id::Id;
 use at_base::text::Text;
+use audit_at::audit::audit;
+use audit_at::verdict::Verdict;
 use journal_at::records::Records;
 use schedules::line::{BadLine, ScheduleError};
 use std::alloc::{AllocError, Global};

@@ -1,6 +1,6 @@
 -- The address of a durable seat names its transaction, by the base of its node.
-use Rattle.std.specs.Prelude.{bytes_eq, codes, decimal, option_and_then, option_map, ◌≢◌}
-use Rattle.std.proofs.Common.{ℕ, zero, suc, List, [], ◌∷◌, ◌++◌, ◌≡◌, ◌<◌, ◌+◌, ◌^◌, length, get_or, Bool, true, false, Option, Some, None, nat_eq, cond, sym, ap, subst, ◌∙◌, arith, refl}
+use Rattle.std.specs.Prelude.{codes, decimal, option_and_then, option_map}
+use Rattle.std.proofs.Common.{ℕ, suc, List, [], ◌∷◌, ◌++◌, ◌≡◌, ◌<◌, ◌+◌, ◌^◌, Bool, true, false, Option, Some, None, nat_eq, cond, sym, ap, subst, ◌∙◌, arith, refl}
 use Rattle.std.proofs.lemmas.Bool.{eqb-true}
 use Rattle.std.proofs.lemmas.List.{append_assoc, append-nil}
 use Rattle.at_base.specs.IdText.{IsId, hyphen, id_text}

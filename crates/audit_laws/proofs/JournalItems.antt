@@ -1,5 +1,5 @@
 -- The items that journals name are those of a world, and so are their superiors.
-use Rattle.std.specs.Prelude.{ℕ, zero, suc, List, [], ◌∷◌, ◌++◌, Option, Some, None, Bool, true, false, nat_eq, nat_lt, ◌&&◌, ◌||◌, ◌+◌, ◌-◌, if◌then◌else◌, bytes_eq, codes, length, unwrap_or, ◌≡◌, ◌⊎◌, ◌<◌, ◌≤◌, refl}
+use Rattle.std.specs.Prelude.{ℕ, zero, suc, List, [], ◌∷◌, ◌++◌, Option, Some, None, Bool, true, false, nat_eq, ◌||◌, ◌+◌, ◌-◌, if◌then◌else◌, bytes_eq, codes, unwrap_or, ◌≡◌, ◌⊎◌, ◌<◌, ◌≤◌, refl}
 use Rattle.std.specs.List.{list_any}
 use Rattle.std.proofs.Common.{arith, inl, inr, sym, subst, ap, ◌∙◌}
 use Rattle.std.proofs.lemmas.Bool.{eqb-true, eqb-false}
@@ -14,7 +14,7 @@ use Rattle.at_base.specs.declared.target.Target.TheVariants as targets
 use Rattle.at_model.specs.Book.{is_id}
 use Rattle.at_model.specs.Recovery.{is_voted}
 use Rattle.at_model.specs.World.{HaveOwnAddresses, Hosts, IsNumber, Node, Who, World, new_nodes, nth}
-use Rattle.model_laws.specs.Agreement.{IsIn, IsOf, Stands, below, itself}
+use Rattle.model_laws.specs.Agreement.{IsIn, IsOf, below, itself}
 use Rattle.model_laws.specs.ReachedWorlds.{Reached}
 use Rattle.model_laws.proofs.Addresses.{HaveBases, IsPlace, place_is}
 use Rattle.model_laws.proofs.DecisionLaws.{first_true, second_true}
@@ -30,7 +30,7 @@ use Rattle.recorded_runs.proofs.LedCoordinators.{coordinators_led}
 use Rattle.audit_at.specs.Superiors.{Log, climb, comes_to, is_item, is_some_and, item_at, named, subordinate_at, subordinates, subordinates_in, superior_of}
 use Rattle.audit_at.specs.declared.item.Item.{Item}
 use Rattle.audit_at.specs.declared.subordinate.Subordinate.{Subordinate}
-use Rattle.audit_laws.specs.JournalsOfRuns.{AreJournalsOf, log_of}
+use Rattle.audit_laws.specs.JournalsOfRuns.{AreJournalsOf}
 use Rattle.audit_laws.proofs.Addresses.{names_seat}
 
 -- a world that is reached, and the journals of some of its nodes

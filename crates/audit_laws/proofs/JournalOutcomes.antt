@@ -1,6 +1,6 @@
 -- The outcomes that journals record are those of a world, each under its root.
-use Rattle.std.specs.Prelude.{ℕ, List, [], ◌∷◌, ◌++◌, Option, Some, None, Bool, true, false, not, ◌&&◌, ◌||◌, if◌then◌else◌, length, ◌≡◌, ◌⊎◌, refl}
-use Rattle.std.specs.List.{list_any, AllByRecursion}
+use Rattle.std.specs.Prelude.{ℕ, List, [], ◌∷◌, ◌++◌, Some, Bool, true, false, not, ◌&&◌, ◌||◌, if◌then◌else◌, length, ◌≡◌, ◌⊎◌, refl}
+use Rattle.std.specs.List.{list_any}
 use Rattle.std.proofs.Common.{inl, inr, sym, subst, ap, ◌∙◌}
 use Rattle.std.proofs.lemmas.List.{append_assoc}
 use Rattle.at_base.specs.Numbers.{Numbers}
@@ -10,7 +10,7 @@ use Rattle.at_base.specs.declared.record.Record.TheVariants as records
 use Rattle.at_base.specs.declared.record.Seated.{Seated}
 use Rattle.at_model.specs.Recovery.{is_ended, is_leaf_prepared, is_sub_committed, is_voted}
 use Rattle.at_model.specs.World.{Hosts, Node, Who, World, nth}
-use Rattle.model_laws.specs.Agreement.{HasAborted, HasCommitted, IsIn, IsOf, below, itself}
+use Rattle.model_laws.specs.Agreement.{HasAborted, HasCommitted, IsIn, below, itself}
 use Rattle.model_laws.proofs.RecoveryLaws.{same_id, self_id}
 use Rattle.agreement.specs.Sorts.{FitsRecord, Sort}
 use Rattle.agreement.proofs.SeatedEntries.{in_either, one_of}

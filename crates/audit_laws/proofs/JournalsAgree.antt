@@ -1,10 +1,8 @@
 -- The journals of a run agree.
-use Rattle.std.specs.Prelude.{ℕ, List, [], ◌∷◌, Option, Some, None, Bool, true, false, not, ◌||◌, ◌+◌, ◌-◌, nat_eq, if◌then◌else◌, filter, length, map, ◌≡◌, ◌⊎◌, ◌≤◌, refl}
-use Rattle.std.specs.List.{list_any}
+use Rattle.std.specs.Prelude.{ℕ, List, [], ◌∷◌, Some, Bool, true, false, not, ◌||◌, ◌+◌, ◌-◌, nat_eq, if◌then◌else◌, filter, length, map, ◌≡◌, ◌≤◌, refl}
 use Rattle.std.proofs.Common.{arith, inl, inr, sym, subst, ap, ◌∙◌}
-use Rattle.at_model.specs.World.{HaveOwnAddresses, Hosts, Node, Who, World, WorldEvent, nth, run_of}
-use Rattle.model_laws.specs.Agreement.{HasAborted, HasCommitted, IsIn, IsOf, IsSplit}
-use Rattle.model_laws.specs.ReachedWorlds.{Reached}
+use Rattle.at_model.specs.World.{Hosts, Node, World, nth, run_of}
+use Rattle.model_laws.specs.Agreement.{IsIn, IsOf}
 use Rattle.model_laws.proofs.ReachedWorlds.{run_reached}
 use Rattle.outcomes.proofs.Agreement.{bound}
 use Rattle.outcomes.proofs.Depth.{whole}

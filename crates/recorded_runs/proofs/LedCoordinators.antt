@@ -1,6 +1,5 @@
 -- A coordinator that an item knows, or that a record names, is the endpoint of a target of a node.
 use Rattle.std.specs.Prelude.{ℕ, List, Option, Some, None, Bool, true, false, option_map, ◌≡◌}
-use Rattle.std.specs.List.{AllByRecursion}
 use Rattle.std.proofs.Common.{inl, inr, sym, subst, ◌∙◌}
 use Rattle.at_base.specs.Numbers.{Numbers}
 use Rattle.at_base.specs.declared.epr.Epr.{Epr}
@@ -35,7 +34,6 @@ use Rattle.agreement.specs.Deeds.{How, KeepsLink, KeepsLinksIfLeft, coordinator_
 use Rattle.agreement.specs.LeafDeeds.{LeafDeed, LeafIdles, aborts, commits, dropped, for_durable, idles, leaves, prepares, registered, registers_again, rests, rolls_back, votes_again}
 use Rattle.agreement.specs.StepDeeds.{standing}
 use Rattle.agreement.proofs.SeatedEntries.{one_of}
-use Rattle.enlistments.specs.Leads.{LeadsTo}
 use Rattle.enlistments.specs.NoticeOrigins.{Responds, names_completion, names_seat}
 use Rattle.enlistments.specs.Registrations.{Enrolls, has_completion, has_seat, refuses, takes_completion, takes_seat}
 use Rattle.enlistments.proofs.Answers.{held_after, keeps_id}

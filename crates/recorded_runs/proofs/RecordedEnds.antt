@@ -22,7 +22,7 @@ use Rattle.at_model.specs.Recovery.{ends_leaf, ends_transaction, is_decided, is_
 use Rattle.at_model.specs.Seats.{prepared}
 use Rattle.at_model.specs.Step.{moment_of, plan, step}
 use Rattle.at_model.specs.World.{HaveOwnAddresses, Hosts, Node, World, lost_in, nth, opening, put_nth, started, up_after, with_post}
-use Rattle.model_laws.specs.Agreement.{HasAborted, HasCommitted, HasEnded, IsIn, Stands}
+use Rattle.model_laws.specs.Agreement.{HasAborted, HasCommitted, HasEnded, IsIn}
 use Rattle.model_laws.specs.DrawnIds.{with_entry}
 use Rattle.model_laws.specs.Growth.{Grows}
 use Rattle.model_laws.specs.ReachedWorlds.{Reached, counts}
@@ -51,7 +51,7 @@ use Rattle.votes.proofs.Premises.{StepPremises}
 use Rattle.votes.proofs.StepItems.{aborts_now, commits_now, effect_there, stands_as}
 use Rattle.outcomes.proofs.Agreement.{layers}
 use Rattle.outcomes.proofs.Layers.{step_premises}
-use Rattle.recorded_runs.specs.JournalRecords.{CommitStands, HasNoVote, IsBefore, IsOrdered, JournalSays, RecordSays}
+use Rattle.recorded_runs.specs.JournalRecords.{CommitStands, IsBefore, IsOrdered, JournalSays, RecordSays}
 
 commit_on : (u w : World) → Grows u w → (n : ℕ) (id : Numbers) → CommitStands u n id → CommitStands w n id
 commit_on u w g n id (inl s) = inl (takes_nothing_back.stands u w g n (records.SubCommitted id) s)

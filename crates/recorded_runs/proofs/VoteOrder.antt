@@ -1,12 +1,11 @@
 -- Who votes under one that votes does so before it.
-use Rattle.std.specs.Prelude.{ℕ, List, [], ◌∷◌, ◌++◌, Option, Some, None, Bool, true, false, nat_eq, ◌&&◌, ◌||◌, ◌+◌, if◌then◌else◌, ◌≡◌, ◌⊎◌, ◌<◌, refl}
+use Rattle.std.specs.Prelude.{ℕ, List, [], ◌∷◌, ◌++◌, Option, Some, None, Bool, true, false, nat_eq, ◌&&◌, ◌+◌, if◌then◌else◌, ◌≡◌, ◌⊎◌, ◌<◌, refl}
 use Rattle.std.proofs.Common.{arith, inl, inr, sym, subst, ap, ◌∙◌}
 use Rattle.std.proofs.lemmas.Bool.{eq-eqb, eqb-true}
 use Rattle.at_base.specs.Numbers.{Numbers}
 use Rattle.at_base.specs.declared.epr.Epr.{Epr}
 use Rattle.at_base.specs.declared.event.Event.{Event}
 use Rattle.at_base.specs.declared.event.Moment.{Moment}
-use Rattle.at_base.specs.declared.notice.Kind.{Kind}
 use Rattle.at_base.specs.declared.notice.Kind.TheVariants as kinds
 use Rattle.at_base.specs.declared.notice.Notice.TheVariants as notices
 use Rattle.at_base.specs.declared.record.Record.{Record}
@@ -15,7 +14,7 @@ use Rattle.at_base.specs.declared.record.Seated.{Seated}
 use Rattle.at_model.specs.Book.{Book, Leaf, Transaction}
 use Rattle.at_model.specs.Due.{may_expire}
 use Rattle.at_model.specs.Moves.{Change}
-use Rattle.at_model.specs.Recovery.{is_leaf_prepared, is_voted, last_incarnation}
+use Rattle.at_model.specs.Recovery.{is_voted, last_incarnation}
 use Rattle.at_model.specs.Step.{leaf_at, moment_of, plan, step, transaction_at}
 use Rattle.at_model.specs.World.{HaveOwnAddresses, Hosts, Node, Who, World, lost_in, nth, opening, put_nth, started, up_after}
 use Rattle.model_laws.specs.Agreement.{HasPosted, IsIn, Stands}
@@ -25,7 +24,7 @@ use Rattle.model_laws.proofs.DecisionLaws.{IfThere, first_true, second_true}
 use Rattle.model_laws.proofs.NodeLives.{opening_node}
 use Rattle.model_laws.proofs.RecoveryLaws.{self_id}
 use Rattle.model_laws.proofs.WorldInvariants.{Law, holds}
-use Rattle.agreement.specs.Deeds.{How, StoodFor}
+use Rattle.agreement.specs.Deeds.{StoodFor}
 use Rattle.agreement.specs.LeafDeeds.{LeafDeed, aborts, commits, dropped, idles, leaves, prepares, rolls_back}
 use Rattle.agreement.specs.Lives.{book_of, happened_on}
 use Rattle.agreement.specs.StepDeeds.{standing}
