@@ -1,7 +1,7 @@
 //! The top call over sources and sinks in memory.
 
-use entry_point::help::heard;
 use command_line::run::run;
+use entry_point::help::heard;
 use site_model::memory::{MemSink, MemSource};
 use site_model::sure_site::SureSite;
 use std::alloc::{AllocError, Global};
