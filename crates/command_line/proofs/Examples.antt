@@ -9,7 +9,7 @@ use Rattle.url.proofs.OnLiterals.{url_on_literals}
 use Rattle.command_line.specs.Commands.{whole}
 use Rattle.command_line.specs.Jobs.{IsJobOf, IsQuestion, is_address}
 use Rattle.command_line.specs.Jobs.Filter.{Cell, Check, Replay}
-use Rattle.command_line.specs.Jobs.Job.{Filters, Make}
+use Rattle.command_line.specs.Jobs.Job.{Audit, Filters, Make}
 
 cell_in_state : IsJobOf (codes "cell" ∷ codes "--state" ∷ codes "None" ∷ []) (Filters (Cell states.None))
 unfolding clap_on_literals
@@ -34,6 +34,10 @@ replay_to_rest = (refl, (refl, refl, refl))
 replay_with_bytes : IsJobOf (codes "replay" ∷ codes "--bytes" ∷ []) (Filters (Replay (record { settle = false; bytes = true })))
 unfolding clap_on_literals
 replay_with_bytes = (refl, (refl, refl, refl))
+
+audit : IsJobOf (codes "audit" ∷ []) Audit
+unfolding clap_on_literals
+audit = (refl, refl)
 
 make : IsJobOf (codes "make" ∷ codes "--seed" ∷ codes "18446744073709551615" ∷ codes "--steps=9999" ∷ []) (Make 18446744073709551615 9999)
 unfolding clap_on_literals digits

@@ -9,3 +9,4 @@ mod Rows
 mod Servings
 mod Ticks
 mod Words
+mod Audits

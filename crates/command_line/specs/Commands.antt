@@ -34,6 +34,10 @@ check = with_rule (new_app (codes "check")) (preset (codes "path") (codes "/"))
 abbrev pub replay : App
 replay = with_rule (with_rule (new_app (codes "replay")) (flag (codes "settle"))) (flag (codes "bytes"))
 
+-- `audit`
+abbrev pub audit : App
+audit = new_app (codes "audit")
+
 -- `make --seed S --steps N`
 abbrev pub make : App
 make = with_rule (with_rule (new_app (codes "make")) (wanted (codes "seed"))) (wanted (codes "steps"))
@@ -51,9 +55,13 @@ top = on_top (λ s. record s { no_binary_name = true; disable_help_subcommand = 
 abbrev pub filters : App
 filters = with_subcommand (with_subcommand (with_subcommand top cell.top) check.top) replay.top
 
+-- with the one that reads journals
+abbrev pub auditing : App
+auditing = with_subcommand filters audit.top
+
 -- with the one that makes its schedule itself
 abbrev pub printing : App
-printing = with_subcommand filters make.top
+printing = with_subcommand auditing make.top
 
 -- `NAME --listen ADDR [--base URL] --journal F [--turns N]`
 abbrev pub silent : Text → App

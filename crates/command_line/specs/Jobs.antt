@@ -53,6 +53,8 @@ pub record Serving : Type 0 where
 
 pub data Job : Type 0 where
   Filters : Filter → Job
+  -- what the journals of several nodes say together
+  Audit : Job
   -- how so many lines that are made of a seed come out
   Make : ℕ → ℕ → Job
   -- a post to this destination, which asks a node for what is due
@@ -149,6 +151,7 @@ MeansServing name rows s =
 -- a command of this name, with these values of its options, is the job
 abbrev pub Means : Text → List Row → Job → Type 0
 Means name rows (Filters filter) = MeansFilter name rows filter
+Means name rows Audit = name ≡ codes "audit"
 Means name rows (Make seed steps) = (name ≡ codes "make") × MeansMade rows seed steps
 Means name rows (Tick to) = (name ≡ codes "tick") × IsSomeAnd (first_of (codes "to") rows) (λ url. tick_to url ≡ Some to)
 Means name rows (Serve s) = MeansServing name rows s
@@ -163,6 +166,10 @@ IsJob words = (job : Job) × IsJobOf words job
 -- they are a job that reads its input
 abbrev pub IsFilter : List Text → Type 0
 IsFilter words = (filter : Filter) × IsJobOf words (Filters filter)
+
+-- they ask for an audit, which reads its input too
+abbrev pub IsAudit : List Text → Type 0
+IsAudit words = IsJobOf words Audit
 
 -- they are a node that serves
 abbrev pub IsServing : List Text → Type 0

@@ -5,3 +5,4 @@ pub mod Summaries
 pub mod Views
 pub mod Ticks
 pub mod Servings
+pub mod Audits

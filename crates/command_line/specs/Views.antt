@@ -18,7 +18,7 @@ use Rattle.command_line.specs.declared.job.Serving.{Serving as NamedServing}
 use Rattle.command_line.specs.Jobs.{Filter, IsFaulty, IsQuestion, Job, Role, Serving, asks_for, is_wildcard}
 use Rattle.command_line.specs.Jobs.Role.{Coordinator, Participant, Initiator}
 use Rattle.command_line.specs.Jobs.Filter.{Cell, Check, Replay}
-use Rattle.command_line.specs.Jobs.Job.{Filters, Make, Serve, Tick}
+use Rattle.command_line.specs.Jobs.Job.{Audit, Filters, Make, Serve, Tick}
 
 abbrev pub meant_filter : NamedFilter → Filter
 meant_filter (filters.Cell state) = Cell state
@@ -35,6 +35,7 @@ meant_serving s = record { role = meant_role s.role; listen = s.listen.now; base
 
 abbrev pub meant : Named → Job
 meant (named.Filter filter) = Filters (meant_filter filter)
+meant named.Audit = Audit
 meant (named.Make seed steps) = Make seed steps
 meant (named.Tick to) = Tick to
 meant (named.Serve s) = Serve (meant_serving s)

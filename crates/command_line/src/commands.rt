@@ -2,7 +2,7 @@
 
 ghost use Rattle.std.specs.Prelude.{◌≡◌, false, IfOk, codes};
 ghost use Rattle.clap.specs.Walk.{rule_of};
-ghost use Rattle.command_line.specs.Commands.{IsCommand, valued, wanted, flag, cell, check, replay, make, coordinating, filters, participating, posting, printing, serving, silent, tick, top, whole};
+ghost use Rattle.command_line.specs.Commands.{IsCommand, valued, wanted, flag, audit, auditing, cell, check, replay, make, coordinating, filters, participating, posting, printing, serving, silent, tick, top, whole};
 
 use clap::{Arg, ArgAction, Command};
 use std::alloc::{AllocError, Global};
@@ -62,6 +62,15 @@ fn replay<'a>(alloc: Global) -> Result<Command<'a>, AllocError>
         .arg(bytes)
 }
 
+/// `audit`.
+fn audit<'a>(alloc: Global) -> Result<Command<'a>, AllocError>
+    ensures { IfOk result (IsCommand audit) }
+{
+    Ok(Command::new(alloc, "audit").about(
+        "Print whether the outcomes that nodes' journals record agree, whatever the transactions",
+    ))
+}
+
 /// `make --seed S --steps N`.
 fn make<'a>(alloc: Global) -> Result<Command<'a>, AllocError>
     ensures { IfOk result (IsCommand make) }
@@ -112,11 +121,18 @@ fn filters<'a>(alloc: Global) -> Result<Command<'a>, AllocError>
     command.subcommand(replay(alloc)?)
 }
 
+/// With the one that reads journals.
+fn auditing<'a>(alloc: Global) -> Result<Command<'a>, AllocError>
+    ensures { IfOk result (IsCommand auditing) }
+{
+    filters(alloc)?.subcommand(audit(alloc)?)
+}
+
 /// With the one that makes its schedule itself.
 fn printing<'a>(alloc: Global) -> Result<Command<'a>, AllocError>
     ensures { IfOk result (IsCommand printing) }
 {
-    filters(alloc)?.subcommand(make(alloc)?)
+    auditing(alloc)?.subcommand(make(alloc)?)
 }
 
 /// `--listen ADDR`.

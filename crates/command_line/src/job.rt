@@ -67,6 +67,8 @@ pub struct Serving<'a> {
 #[derive(Debug, PartialEq, Eq, Drop)]
 pub enum Job<'a> {
     Filter(Filter<'a>),
+    /// `audit`.
+    Audit,
     /// `make --seed S --steps N`.
     Make { seed: u64, steps: u16 },
     /// `tick --to U`.
@@ -340,7 +342,7 @@ fn read_longer<'a>(
     name: &str,
     found: &ArgMatches<'a>,
 ) -> Result<Option<Job<'a>>, AllocError>
-    requires { (name.now ≢ codes "tick") × (name.now ≢ codes "make") }
+    requires { (name.now ≢ codes "tick") × (name.now ≢ codes "make") × (name.now ≢ codes "audit") }
     ensures found { IfOk result (λ job. IfSome job (λ job. Means name.now (rows_of (found_of found.now)) (meant job))) }
     ensures every { IfOk result (λ found_job. (job : Meant) → Means name.now (rows_of (found_of found.now)) job → option_map meant found_job ≡ Some job) }
 {
@@ -371,6 +373,7 @@ fn read_job<'a>(
             Some((seed, steps)) => Ok(Some(Job::Make { seed, steps })),
             None => Ok(None),
         },
+        "audit" => Ok(Some(Job::Audit)),
         _ => read_longer(alloc, name, found),
     }
 }

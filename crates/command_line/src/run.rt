@@ -8,8 +8,9 @@ ghost use Rattle.addressing.specs.declared.post_to.PostTo.{PostTo};
 ghost use Rattle.clap.specs.Faults.{fault_of};
 ghost use Rattle.clap.specs.Simple.{subcommand_of};
 ghost use Rattle.command_line.specs.Commands.{whole};
-ghost use Rattle.command_line.specs.Jobs.{Filter as Filtering, IsFaulty, IsFilter, IsInitiator, IsJob, IsJobOf, IsQuestion, IsServing, Serving as Served, is_replay};
+ghost use Rattle.command_line.specs.Jobs.{Filter as Filtering, IsAudit, IsFaulty, IsFilter, IsInitiator, IsJob, IsJobOf, IsQuestion, IsServing, Serving as Served, is_replay};
 ghost use Rattle.command_line.specs.Reports.{HasNoRoomFor, HasTooManyEventsFor, IsCut, IsDone, IsReport, Reports, status_of};
+ghost use Rattle.command_line.specs.Audits.{HasAudited};
 ghost use Rattle.command_line.specs.Jobs.Job.{Filters, Make, Serve, Tick};
 ghost use Rattle.command_line.specs.Servings.{HasServed, Initiates, initiates};
 ghost use Rattle.command_line.specs.Summaries.{IsSummed, IsSummedInPart};
@@ -22,6 +23,7 @@ use crate::make::make;
 use crate::node::{FULL, serve_node};
 use crate::replay::replayed;
 use crate::tick::tick;
+use audit_cmd::audit::audit;
 use envelope_cmd::cell::cell;
 use envelope_cmd::check::check;
 use envelope_cmd::output::Printed;
@@ -226,7 +228,8 @@ fn filter<S: Source, K: Sink>(
 ///
 /// `cell --state S` reads one envelope from the source, and prints the cell of state S that it meets and the envelope
 /// that the cell posts. `check [--path P]` prints what the envelope says, line by line. `replay` reads a schedule, and
-/// prints its report; `replay --settle` brings its world to rest behind the last line. `make --seed S --steps N` reads
+/// prints its report; `replay --settle` brings its world to rest behind the last line. `audit` reads the journals of several nodes, and
+/// prints whether the outcomes that they record agree. `make --seed S --steps N` reads
 /// nothing, and prints how the schedule of a seed comes out. All that these print is made in memory before the first write.
 /// `tick --to U` posts to U`/tick`, and reads and prints nothing. `--help` and `--version` are answered without a look at
 /// the source. Of words that clap refuses, and of a value that doesn't read, the errors are told why, and nothing is printed.
@@ -247,13 +250,14 @@ pub fn run<S: Source, K: Sink, E: Sink, H: Site>(
     ensures question { IsQuestion (map string_bytes words.now) → IsTrue (list_any (nat_eq result) (0 ∷ 5 ∷ 9 ∷ [])) }
     ensures filtered { IsFilter (map string_bytes words.now) → IsTrue (list_any (nat_eq result) (0 ∷ 3 ∷ 4 ∷ 5 ∷ 9 ∷ 10 ∷ 12 ∷ 14 ∷ [])) }
     ensures gave_up { (filter : Filtering) → IsJobOf (map string_bytes words.now) (Filters filter) → IsTrue (list_any (nat_eq result) (12 ∷ 14 ∷ [])) → is_replay filter ≡ true }
-    ensures unread { ¬ (IsFilter (map string_bytes words.now)) → ¬ (IsInitiator (map string_bytes words.now)) → source.new ≡ source.old }
+    ensures unread { ¬ (IsFilter (map string_bytes words.now)) → ¬ (IsAudit (map string_bytes words.now)) → ¬ (IsInitiator (map string_bytes words.now)) → source.new ≡ source.old }
     ensures said { ¬ (IsJob (map string_bytes words.now)) → (said : List ℕ) × Appends (K.contents sink.old) (K.contents sink.new) said }
     ensures kept { result ≡ 2 → sink.new ≡ sink.old }
     ensures apart { result ≢ 2 → errors.new ≡ errors.old }
     ensures complained { result ≡ 2 → (said : List ℕ) × Appends (E.contents errors.old) (E.contents errors.new) said }
     ensures unknown { result ≡ 2 → fault_of whole (map string_bytes words.now) ≡ [] → ¬ (Rose (E.faults errors.old) (E.faults errors.new)) → Appends (E.contents errors.old) (E.contents errors.new) (unread_text (subcommand_of whole (map string_bytes words.now))) }
     ensures untouched { ((to : PostTo) → ¬ (IsJobOf (map string_bytes words.now) (Tick to))) → ¬ (IsServing (map string_bytes words.now)) → site.new ≡ site.old }
+    ensures audited { IsAudit (map string_bytes words.now) → HasAudited (S.left source.old) (S.given source.old) (S.given source.new) (K.contents sink.old) (K.contents sink.new) result }
     ensures making { (seed steps : ℕ) → IsJobOf (map string_bytes words.now) (Make seed steps) → IsTrue (list_any (nat_eq result) (0 ∷ 5 ∷ 9 ∷ [])) }
     ensures summed { (seed steps : ℕ) → IsJobOf (map string_bytes words.now) (Make seed steps) → result ≡ 0 → IsSummed seed steps (K.contents sink.old) (K.contents sink.new) }
     ensures summed_in_part { (seed steps : ℕ) → IsJobOf (map string_bytes words.now) (Make seed steps) → result ≡ 5 → IsSummedInPart seed steps (K.contents sink.old) (K.contents sink.new) }
@@ -271,7 +275,7 @@ pub fn run<S: Source, K: Sink, E: Sink, H: Site>(
     ensures not_longer { S.given source.old + 1048576 < S.given source.new → result ≡ 10 }
     ensures longer { result ≡ 10 → IfSome (S.left source.old) (λ input. 1048576 < length input) }
     ensures whole { IsFilter (map string_bytes words.now) → IsTrue (list_any (nat_eq result) (0 ∷ 3 ∷ 5 ∷ [])) → IfSome (S.left source.old) (λ input. RisesBy (length input) (S.given source.old) (S.given source.new)) }
-    ensures quiet { ¬ (IsServing (map string_bytes words.now)) → IsTrue (list_any (nat_eq result) (4 ∷ 8 ∷ 9 ∷ 10 ∷ 12 ∷ 14 ∷ [])) → Appends (K.contents sink.old) (K.contents sink.new) [] }
+    ensures quiet { ¬ (IsServing (map string_bytes words.now)) → ¬ (IsAudit (map string_bytes words.now)) → IsTrue (list_any (nat_eq result) (4 ∷ 8 ∷ 9 ∷ 10 ∷ 12 ∷ 14 ∷ [])) → Appends (K.contents sink.old) (K.contents sink.new) [] }
     ensures ended { (filter : Filtering) → IsJobOf (map string_bytes words.now) (Filters filter) → IsTrue (list_any (nat_eq result) (0 ∷ 3 ∷ [])) → IfSome (S.left source.old) (λ input. IsDone filter input (K.contents sink.old) (K.contents sink.new) result) }
     ensures cut { (filter : Filtering) → IsJobOf (map string_bytes words.now) (Filters filter) → result ≡ 5 → IfSome (S.left source.old) (λ input. IsCut filter input (K.contents sink.old) (K.contents sink.new)) }
     ensures full { (filter : Filtering) → IsJobOf (map string_bytes words.now) (Filters filter) → result ≡ 12 → IfSome (S.left source.old) (HasNoRoomFor filter) }
@@ -280,6 +284,7 @@ pub fn run<S: Source, K: Sink, E: Sink, H: Site>(
 {
     match job_of(alloc, words) {
         Ok(Job::Filter(chosen)) => filter(alloc, &chosen, source, sink),
+        Ok(Job::Audit) => audit(alloc, source, sink),
         Ok(Job::Make { seed, steps }) => make(alloc, seed, steps, sink),
         Ok(Job::Tick(to)) => tick(alloc, &to, site),
         Ok(Job::Serve(serving)) => serve_node(alloc, &serving, source, sink, site),

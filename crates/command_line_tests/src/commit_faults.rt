@@ -1,5 +1,6 @@
 //! A failure and a stop at each device call of a commit of two levels, through the top call.
 
+use crate::journals::agreed;
 use crate::top_call::{printed, text_of};
 use crate::worked_schedules::NESTED;
 use std::alloc::{AllocError, Global};
@@ -57,9 +58,14 @@ fn counts_in(report: &str) -> &str {
     }
 }
 
+fn script_of(alloc: Global, fault: &str) -> Result<String, AllocError> {
+    let script = format!(in alloc; "{NESTED}{fault}\n{ENDED}")?;
+    Ok(script)
+}
+
 /// How many subordinates and participants ended, of the commit with this line before it.
 fn ends(alloc: Global, fault: &str) -> Result<String, AllocError> {
-    let script = format!(in alloc; "{NESTED}{fault}\n{ENDED}")?;
+    let script = script_of(alloc, fault)?;
     let report = printed(alloc, "replay", script.as_bytes())?;
     String::from_str(alloc, counts_in(text_of(report.as_slice())))
 }
@@ -69,8 +75,14 @@ fn is_whole(counts: &str) -> bool {
     counts.starts_with("0 ") || counts.ends_with(" aborted 0 lost 0\n")
 }
 
-/// How many of a node's calls may meet a fault so that the commit isn't split; its words in front of the node and the call,
-/// and behind them.
+/// Whether the journals of its nodes agree.
+fn is_agreed(alloc: Global, fault: &str) -> Result<bool, AllocError> {
+    let script = script_of(alloc, fault)?;
+    Ok(agreed(alloc, script.as_bytes())?.is_some())
+}
+
+/// How many of a node's calls may meet a fault so that the commit isn't split, and the journals agree; its words in front of the
+/// node and the call, and behind them.
 fn whole_at(
     alloc: Global,
     node: u32,
@@ -83,7 +95,7 @@ fn whole_at(
         let call = k.saturating_add(1);
         let line = format!(in alloc; "{word} {node} {call}{rest}")?;
         let counts = ends(alloc, line.as_str())?;
-        if is_whole(counts.as_str()) {
+        if is_whole(counts.as_str()) && is_agreed(alloc, line.as_str())? {
             whole = whole.saturating_add(1);
         }
     }

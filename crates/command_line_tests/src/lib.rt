@@ -10,6 +10,8 @@ mod disturbed_schedules;
 #[cfg(test)]
 mod faults;
 #[cfg(test)]
+mod journals;
+#[cfg(test)]
 mod long_schedules;
 #[cfg(test)]
 mod message_bytes;

@@ -3,6 +3,7 @@ use Rattle.std.proofs.Common.{subst}
 use Rattle.command_line.specs.Jobs.{IsJobOf}
 use Rattle.command_line.specs.Jobs.Job.{Make, Serve}
 use Rattle.command_line.specs.Views.{meant, meant_serving}
+use Rattle.command_line.proofs.Audits.{unaudited}
 use Rattle.command_line.proofs.Summaries.{summed_as}
 use Rattle.command_line.proofs.Servings.{initiated_as, served_as, unread_by, unreported, unserved}
 use Rattle.command_line.proofs.run.run.Goals as goal
@@ -13,7 +14,7 @@ returns-in-Ok-Make-clause-summed g c = λ seed steps job ended.
     (c.make.ensures.summed ended)
 
 pub returns-in-Ok-Serve-clause-unread : goal.returns-in-Ok-Serve-clause-unread
-returns-in-Ok-Serve-clause-unread g c = λ filters other.
+returns-in-Ok-Serve-clause-unread g c = λ filters audits other.
     unread_by (map string_bytes c.args.words.now) (meant_serving c.in-Ok-Serve.serving) _ other
     (subst (λ z. IsJobOf (map string_bytes c.args.words.now) (meant z)) c.in-Ok-Serve.field-0-is c.in-Ok-Serve.ensures.found) c.serve_node.ensures.unread
 
@@ -26,6 +27,19 @@ pub returns-in-Ok-Serve-clause-initiated : goal.returns-in-Ok-Serve-clause-initi
 returns-in-Ok-Serve-clause-initiated g c = λ serving job.
     initiated_as g.H.Site.told (meant_serving c.in-Ok-Serve.serving) serving _ _ _ _ _ _
     (subst (λ z. meant z ≡ Serve serving) c.in-Ok-Serve.field-0-is (c.in-Ok-Serve.ensures.every (Serve serving) job)) c.serve_node.ensures.initiated
+
+pub returns-in-Ok-Audit-clause-audited : goal.returns-in-Ok-Audit-clause-audited
+returns-in-Ok-Audit-clause-audited g c = λ job. record {
+  statuses = c.audit.ensures.statuses;
+  whole = c.audit.ensures.whole;
+  quiet = c.audit.ensures.quiet;
+  ended = c.audit.ensures.ended;
+  cut = c.audit.ensures.cut;
+}
+
+pub returns-in-Err-clause-audited : goal.returns-in-Err-clause-audited
+returns-in-Err-clause-audited g c = λ job.
+    unaudited (map string_bytes c.args.words.now) c.in-Err.reason _ _ _ _ _ _ c.in-Err.ensures.none job c.tell.ensures.statuses c.tell.ensures.silent
 
 pub returns-in-Err-clause-served : goal.returns-in-Err-clause-served
 returns-in-Err-clause-served g c = λ serving job other.

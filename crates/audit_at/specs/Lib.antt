@@ -1,0 +1,5 @@
+pub mod Superiors
+pub mod Outcomes
+pub mod Verdicts
+pub mod Examples
+pub mod Audits

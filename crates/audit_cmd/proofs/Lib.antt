@@ -1,0 +1,4 @@
+pub mod JournalTexts
+pub mod FilesRead
+pub mod LinesRead
+pub mod Printed

@@ -1,0 +1,4 @@
+pub mod JournalLines
+pub mod JournalReports
+pub mod Readings
+pub mod Audits

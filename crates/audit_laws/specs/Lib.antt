@@ -1,0 +1,2 @@
+pub mod JournalsOfRuns
+pub mod Tops

@@ -1,0 +1,4 @@
+//! The audit of runs: the journals of a run's nodes agree.
+#![tactic(auto)]
+
+pub mod laws;

@@ -1,0 +1,4 @@
+pub mod LedCoordinators
+pub mod RecordedEnds
+pub mod VoteOrder
+pub mod Runs
