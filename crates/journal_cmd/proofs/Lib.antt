@@ -1,0 +1,2 @@
+mod FilePieces
+mod Shows
