@@ -87,12 +87,7 @@ fn print_line<K: Sink>(alloc: Global, sink: &mut K, base: &str, pair: &Pair) -> 
 /// A second file that isn't there counts as empty, as at a start. A first file that isn't there is status 6, though a start
 /// would make it. Nothing is written but to the sink.
 #[tactic(auto, using(crate::proofs::Shows::is_shown, crate::proofs::Shows::is_shown_in_part))]
-pub fn journal<F: Files, K: Sink>(
-    alloc: Global,
-    name: &str,
-    files: &mut F,
-    sink: &mut K,
-) -> u8
+pub fn journal<F: Files, K: Sink>(alloc: Global, name: &str, files: &mut F, sink: &mut K) -> u8
     ensures statuses { IsTrue (list_any (nat_eq result) (0 ∷ 5 ∷ 6 ∷ 7 ∷ 9 ∷ [])) }
     ensures unread { result ≡ 6 → IsMissing (F.told files.old) name.now ⊎ Rose (F.faults files.old) (F.faults files.new) }
     ensures sink_failed { result ≡ 5 → Rose (K.faults sink.old) (K.faults sink.new) }

@@ -39,11 +39,7 @@ fn second_name(alloc: Global, name: &str) -> Result<String, AllocError>
 }
 
 /// The bytes of the second file, none where there is no such file.
-fn read_second<F: Files>(
-    alloc: Global,
-    files: &mut F,
-    name: &str,
-) -> Result<Vec<u8>, PairFault>
+fn read_second<F: Files>(alloc: Global, files: &mut F, name: &str) -> Result<Vec<u8>, PairFault>
     ensures is { (held : Held) → F.told files.old ≡ Some held → IfOk result (λ v. IsSecond v.items (held name.now)) }
     ensures kept { F.told files.new ≡ F.told files.old }
     ensures cause { SecondCause result (F.faults files.old) (F.faults files.new) }
@@ -57,11 +53,7 @@ fn read_second<F: Files>(
 }
 
 /// The two files of a journal: that of its name, and that with `.1` behind it.
-pub fn read_pair<F: Files>(
-    alloc: Global,
-    files: &mut F,
-    name: &str,
-) -> Result<Pair, PairFault>
+pub fn read_pair<F: Files>(alloc: Global, files: &mut F, name: &str) -> Result<Pair, PairFault>
     ensures is { (held : Held) → F.told files.old ≡ Some held → IfOk result (λ p. PairOf held name.now (record { first = p.first.items; second = p.second.items })) }
     ensures kept { F.told files.new ≡ F.told files.old }
     ensures cause { PairCause result (F.told files.old) name.now (F.faults files.old) (F.faults files.new) }

@@ -19,11 +19,7 @@ pub enum Unread {
 
 /// Reads a piece behind those that were read. False at the file's end.
 #[tactic(auto, using(crate::proofs::FilePieces::one_more, crate::proofs::FilePieces::ended, crate::proofs::FilePieces::missing))]
-fn read_piece<F: Files>(
-    files: &mut F,
-    name: &str,
-    bytes: &mut Vec<u8>,
-) -> Result<bool, Unread>
+fn read_piece<F: Files>(files: &mut F, name: &str, bytes: &mut Vec<u8>) -> Result<bool, Unread>
     ensures is { (held : Held) → F.told files.old ≡ Some held → IsBeginning bytes.old.items (held name.now) → IsPiece result bytes.new.items (held name.now) }
     ensures kept { F.told files.new ≡ F.told files.old }
     ensures cause { ReadCause result (F.faults files.old) (F.faults files.new) }

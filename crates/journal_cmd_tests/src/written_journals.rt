@@ -9,7 +9,9 @@ use std::alloc::Global;
 use std::test::Fail;
 
 const BEFORE: &str = "version 2\ngeneration 0\nincarnation 1\nstart 1\nnothing open\n";
-const BEHIND: &str = "version 2\ngeneration 0\nincarnation 2\nstart 1\ncommitted 2-3\nnothing open\n";
+
+const BEHIND: &str =
+    "version 2\ngeneration 0\nincarnation 2\nstart 1\ncommitted 2-3\nnothing open\n";
 
 /// The call at which the machine stops, what the crash leaves, and what is printed.
 const STOPS: &[(u32, Choice, &str)] = &[

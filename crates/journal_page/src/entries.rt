@@ -29,7 +29,7 @@ fn push_entry(entries: &mut Vec<Record>, entry: Record) -> Result<(), AllocError
 }
 
 /// The records of a journal that was read, each body of which is one.
-#[tactic(auto, using(crate::proofs::ReadEntries::one_more, crate::proofs::ReadEntries::all_read))]
+#[tactic(auto, using(crate::proofs::ReadEntries::all_read))]
 pub(crate) fn entries_of(alloc: Global, records: &Records) -> Result<Vec<Record>, AllocError>
     ensures { IfOk result (λ v. AreRecords records.now.version v.items (records_in records.now)) }
 {

@@ -5,7 +5,6 @@ ghost use Rattle.journal_page.specs.Pages.{OneIsPrinted};
 use record_bytes::read::are_apart;
 
 /// Of files that stand for records their page is printed, and no other text.
-#[tactic(auto, using(crate::proofs::OnePage::one_is_printed))]
 pub fn one_page_is_printed()
     ensures { OneIsPrinted }
 {
