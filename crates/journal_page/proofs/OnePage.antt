@@ -1,12 +1,9 @@
 -- Of files that stand for records one page is printed.
-use Rattle.std.proofs.Common.{ℕ, List, [], ◌∷◌, ◌++◌, ◌≡◌, ◌⊎◌, inl, inr, sym, subst, ap, ◌∙◌, refl, drop}
+use Rattle.std.proofs.Common.{ℕ, List, ◌∷◌, ◌++◌, ◌≡◌, inl, inr, sym, subst, ap, ◌∙◌, drop}
 use Rattle.std.proofs.lemmas.List.{drop-map, map-append}
-use Rattle.at_base.specs.declared.record.Record.{Record}
-use Rattle.decision_log.specs.Folds.{AreRecords, placed_in}
+use Rattle.decision_log.specs.Folds.{AreRecords}
 use Rattle.journal_at.specs.Format.{head_of, records_of}
 use Rattle.journal_at.specs.Frames.{bodies_of, body_of}
-use Rattle.journal_at.specs.Scans.{records_in}
-use Rattle.journal_at.specs.declared.records.Records.{Records}
 use Rattle.journal_at.specs.declared.read.Placed.{Placed}
 use Rattle.record_bytes.specs.Versions.{AreApart}
 use Rattle.site_model.specs.Told.{Files}

@@ -1,20 +1,20 @@
 -- Two files stand for one list of bodies, and for none where they are bad.
-use Rattle.std.specs.Prelude.{ℕ, List, [], ◌∷◌, ◌++◌, ◌≡◌, ◌≢◌, ◌≤◌, ◌<◌, ◌⊎◌, Bool, None, length, zero, suc, refl}
+use Rattle.std.specs.Prelude.{ℕ, List, [], ◌∷◌, ◌++◌, ◌≡◌, ◌≢◌, ◌≤◌, ◌<◌, ◌⊎◌, None, length, zero, suc, refl}
 use Rattle.std.proofs.Common.{inl, inr, sym, subst, ap, arith, ◌∙◌}
 use Rattle.std.proofs.lemmas.Bool.{cases_lt}
 use Rattle.std.proofs.lemmas.List.{append_assoc}
 use Rattle.at_base.specs.declared.record.Record.{Record}
 use Rattle.decision_log.specs.Folds.{AreRecords}
-use Rattle.journal_at.specs.Format.{AreBodies, AreInPlace, AreUnmarked, FileOf, behind, frames, head_of, mark_of, records_of}
+use Rattle.journal_at.specs.Format.{AreBodies, AreInPlace, AreUnmarked, FileOf, behind, frames, head_of, mark_of}
 use Rattle.journal_at.specs.Frames.{Begins, Framed, IsBadAt, IsStray, NoFrame}
 use Rattle.journal_at.specs.Loads.{IsJudged}
-use Rattle.journal_at.specs.Pairs.{HasLive, IsLive}
+use Rattle.journal_at.specs.Pairs.{HasLive}
 use Rattle.journal_at.specs.declared.version.Version.{Version}
 use Rattle.journal_at.proofs.Bodies.{framed_of, tail_framed}
 use Rattle.journal_at.proofs.Frames.{not_framed}
 use Rattle.journal_at.proofs.Openings.{bare_none}
 use Rattle.record_bytes.specs.Versions.{AreApart, IsRecord}
-use Rattle.site_model.specs.Told.{Files, file_of, other_than}
+use Rattle.site_model.specs.Told.{Files}
 
 first_body : (b : List ℕ) (bs : List (List ℕ)) (f : List ℕ) → (h : Framed (b ∷ bs) f) → Begins b (frames bs ++ (h.closed.gate ∷ h.closed.rest)) f
 first_body b bs f h = record {

@@ -1,5 +1,5 @@
 -- Two files on a machine in memory, read as a journal.
-use Rattle.std.proofs.Common.{ℕ, List, [], ◌∷◌, ◌++◌, ◌≡◌, ◌+◌, inl, inr, sym, ◌∙◌, ap, subst, drop, length, refl, Option, Some, Result, Ok, Err, zero, suc}
+use Rattle.std.proofs.Common.{ℕ, List, [], ◌++◌, ◌≡◌, ◌+◌, inl, inr, sym, ◌∙◌, ap, subst, drop, length, refl, Option, Some, Result, Ok, Err, zero, suc}
 use Rattle.std.specs.Prelude.{option_map}
 use Rattle.std.proofs.lemmas.List.{append-nil}
 use Rattle.site_model.specs.Told.{Files, Made, Told, Is, with_file, written}
@@ -12,7 +12,7 @@ use Rattle.journal_at.specs.declared.records.Records.{Records}
 use Rattle.journal_at.specs.Loads.{Fails, Opens}
 use Rattle.journal_at.specs.Scans.{records_in}
 use Rattle.journal_page.specs.Contents.{IsBadAt}
-use Rattle.journal_page.specs.Readings.{IsRead, Keeps, Reads}
+use Rattle.journal_page.specs.Readings.{Keeps, Reads}
 use Rattle.journal_page.specs.declared.standing.Standing.{Standing}
 use Rattle.journal_page.specs.declared.standing.Unread.{Unread}
 use Rattle.journal_page.specs.declared.standing.Unread.TheVariants.{NoMemory, Bad}

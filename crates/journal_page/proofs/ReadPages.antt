@@ -1,5 +1,5 @@
 -- The page of a journal that was read.
-use Rattle.std.proofs.Common.{ℕ, List, ◌≡◌, ◌⊎◌, inl, inr, sym, subst, ap, ◌∙◌}
+use Rattle.std.proofs.Common.{ℕ, ◌≡◌, inl, inr, sym, subst, ap, ◌∙◌}
 use Rattle.decision_log.specs.Folds.{AreRecords}
 use Rattle.decision_log.specs.KeptRecords.{Known, kept_of}
 use Rattle.decision_log.specs.KeptState.{known}

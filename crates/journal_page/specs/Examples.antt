@@ -1,13 +1,11 @@
 -- Worked pages.
-use Rattle.std.specs.Prelude.{ℕ, List, [], ◌∷◌, ◌++◌, ◌≡◌, codes, refl}
+use Rattle.std.specs.Prelude.{ℕ, List, [], ◌∷◌, ◌≡◌, codes, refl}
 use Rattle.std.specs.Fmt.{digits}
 use Rattle.at_base.specs.Numbers.{Numbers}
 use Rattle.at_base.specs.declared.epr.Epr.{Epr}
-use Rattle.at_base.specs.declared.record.Record.{Record}
 use Rattle.at_base.specs.declared.record.Record.TheVariants as records
 use Rattle.at_base.specs.declared.record.Seated.{Seated}
 use Rattle.journal_at.specs.declared.version.Version.TheVariants.{Two}
-use Rattle.journal_page.specs.Contents.{Contents}
 use Rattle.journal_page.specs.Pages.{head_lines, page_text}
 use Rattle.journal_page.specs.OpenLines.{decision_line, doubt_line}
 use Rattle.journal_page.specs.Words.{endpoint_part, endpoint_word, item, number_line, seat_part, seats_part}

@@ -1,5 +1,5 @@
 -- What is printed of a journal: what its files stand for, or where they stand for none.
-use Rattle.std.specs.Prelude.{ℕ, List, Bool, true, false, [], ◌++◌, ◌≡◌, ◌⊎◌, zero, suc, codes, decimal}
+use Rattle.std.specs.Prelude.{ℕ, List, Bool, true, false, ◌++◌, ◌≡◌, ◌⊎◌, zero, suc, codes, decimal}
 use Rattle.at_base.specs.declared.record.Record.{Record}
 use Rattle.decision_log.specs.KeptRecords.{Known, kept_of}
 use Rattle.journal_at.specs.declared.version.Version.{Version}

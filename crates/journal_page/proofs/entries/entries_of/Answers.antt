@@ -1,4 +1,3 @@
-use Rattle.std.proofs.Common.{arith}
 use Rattle.journal_page.proofs.ReadEntries.{one_more}
 use Rattle.journal_page.proofs.entries.entries_of.Goals as goal
 

@@ -1,4 +1,4 @@
-use Rattle.std.proofs.Common.{◌≡◌, ◌++◌, drop}
+use Rattle.std.proofs.Common.{◌≡◌, drop}
 use Rattle.std.specs.List.{list_any}
 use Rattle.at_model.specs.Recovery.{is_sub_committed}
 use Rattle.journal_page.proofs.open_lines.has_commit.Given as goal
