@@ -1,2 +1,3 @@
+mod AddedFiles
 mod FilePieces
 mod Shows

@@ -61,7 +61,7 @@ fn falls(count: &mut u32) -> bool {
 fn read_of(file: Option<&[u8]>, at: u64, buf: &mut [u8]) -> Result<usize, FileFault>
     ensures bound { IfOk result (λ n. n ≤ length buf.new) }
     ensures same_length { length buf.new ≡ length buf.old }
-    ensures is { Answers result at buf.new (option_map (λ bytes. bytes.now) file) }
+    ensures is { Answers result at buf.new (option_map (λ bytes. bytes.now) file.entry) }
     ensures there { result ≢ Err Failed }
 {
     match file {

@@ -2,7 +2,7 @@
 
 ghost use Rattle.std.specs.Prelude.{◌≡◌, ◌++◌, Some, IfOk, codes, string_bytes};
 ghost use Rattle.journal_cmd.specs.Folders.{Held};
-ghost use Rattle.journal_cmd.specs.Pairs.{IsPair, IsPairFault, IsSecond, PairOf, SecondCause};
+ghost use Rattle.journal_cmd.specs.Pairs.{IsSecond, PairCause, PairOf, SecondCause};
 
 use crate::files::Files;
 use crate::read_file::{Unread, read_file};

@@ -42,6 +42,7 @@ fn read_piece<F: Files>(files: &mut F, name: &str, bytes: &mut Vec<u8>) -> Resul
 }
 
 /// All bytes of a file.
+#[tactic(auto, using(crate::proofs::FilePieces::none_read))]
 pub(crate) fn read_file<F: Files>(
     alloc: Global,
     files: &mut F,
