@@ -3,7 +3,7 @@ use Rattle.std.proofs.Common.{ℕ, List, [], length, ◌≡◌, ◌++◌, ◌+�
 use Rattle.std.specs.Prelude.{Bool, true, false}
 use Rattle.std.proofs.lemmas.List.{length-append, length-take, take_all}
 use Rattle.std.proofs.Math.Seq.{take-add}
-use Rattle.journal_cmd.specs.Folders.{Answers, Gives, IsBeginning, IsPiece}
+use Rattle.journal_cmd.specs.Folders.{Answers, IsBeginning, IsPiece}
 use Rattle.journal_cmd.specs.declared.files.FileFault.TheVariants.{Missing}
 use Rattle.journal_cmd.specs.declared.read_file.Unread.{Unread}
 use Rattle.journal_cmd.specs.declared.read_file.Unread.TheVariants as unread

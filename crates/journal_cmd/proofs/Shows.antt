@@ -1,7 +1,5 @@
 -- What the command writes.
-use Rattle.std.proofs.Common.{ℕ, List, ◌≡◌, ◌≤◌, Option, Some, ◌∷◌, [], length, take, refl, sym, ◌∙◌, subst}
-use Rattle.std.specs.Prelude.{◌≢◌, IsTrue, nat_eq}
-use Rattle.std.specs.List.{list_any}
+use Rattle.std.proofs.Common.{ℕ, List, ◌≡◌, ◌≤◌, Option, length, take, subst}
 use Rattle.std.specs.Io.KnownBytes.{Appends}
 use Rattle.journal_page.specs.Contents.{Contents, StandFor}
 use Rattle.journal_page.specs.HexLines.{hex_line}

@@ -1,7 +1,7 @@
 //! The files that a program reads. What is said of a command over any files stands, over these, on their calls doing what
 //! their names say.
 
-ghost use Rattle.std.specs.Prelude.{None};
+ghost use Rattle.std.specs.Prelude.{None, ◌≤◌, IfOk, length};
 
 use journal_cmd::files::{FileFault, Files};
 use std::fs::File;
@@ -22,7 +22,10 @@ impl<R: rt::Files<File = File> + Drop> RealFiles<R> {
         RealFiles { rt, faults: 0 }
     }
 
-    fn read_at(&self, name: &str, at: u64, buf: &mut [u8]) -> io::Result<usize> {
+    /// Opens a file for reading, and reads from a place on.
+    fn read_at(&self, name: &str, at: u64, buf: &mut [u8]) -> io::Result<usize>
+        ensures { IfOk result (λ n. n ≤ length buf.new) }
+    {
         let file = File::open(&self.rt, name)?;
         file.read_at(buf, at)
     }
