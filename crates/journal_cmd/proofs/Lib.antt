@@ -1,0 +1,3 @@
+mod AddedFiles
+mod FilePieces
+mod Shows

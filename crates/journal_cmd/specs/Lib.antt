@@ -1,0 +1,5 @@
+pub mod Folders
+pub mod Pairs
+pub mod Shown
+pub mod Bases
+pub mod HeldFiles

@@ -1,0 +1,5 @@
+mod ReadEntries
+mod ReadFiles
+mod OneStanding
+mod OnePage
+mod ReadPages

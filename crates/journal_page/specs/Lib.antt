@@ -1,0 +1,9 @@
+pub mod Contents
+pub mod Words
+pub mod RecordLines
+pub mod OpenLines
+pub mod Pages
+pub mod Readings
+pub mod Wholes
+pub mod HexLines
+pub mod Examples
