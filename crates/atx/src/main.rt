@@ -6,6 +6,7 @@ use command_line::run::run;
 use entry_point::program::with_words;
 use logged_sites::log::Log;
 use logged_sites::logged_site::LoggedSite;
+use real_files::real_files::RealFiles;
 use real_system::real_system::RealSystem;
 use site_model::sink::{Sink, write_all};
 use standard_streams::reading::Reading;
@@ -102,6 +103,7 @@ fn main(rt: HostRuntime) -> ExitCode {
         &mut Reading::new(rt.stdin()),
         &mut Writing::new(rt.stdout(), PATIENCE_SECONDS),
         &mut errors,
+        &mut RealFiles::new(&rt),
         &mut site,
         run,
     );

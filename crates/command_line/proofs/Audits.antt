@@ -38,5 +38,6 @@ unaudited words (none.Refused text) left given given' x y status h j is quiet = 
 unaudited words none.UnknownState left given given' x y status h j is quiet = absurd (h.0.0 (Audit, j))
 unaudited words none.NoDestination left given given' x y status h j is quiet = absurd (h.0.0 (Audit, j))
 unaudited words none.NoNumbers left given given' x y status h j is quiet = absurd (h.0.0 (Audit, j))
+unaudited words none.NoJournalBase left given given' x y status h j is quiet = absurd (h.0.0 (Audit, j))
 unaudited words none.NoServing left given given' x y status h j is quiet = absurd (h.0.0 (Audit, j))
 unaudited words none.NoBase left given given' x y status h j is quiet = absurd (h.0.0 (Audit, j))

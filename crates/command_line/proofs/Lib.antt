@@ -10,3 +10,4 @@ mod Servings
 mod Ticks
 mod Words
 mod Audits
+mod Journals

@@ -131,6 +131,7 @@ unserved told words (none.Refused text) s lines status x y old h j is quiet = ab
 unserved told words none.UnknownState s lines status x y old h j is quiet = absurd (h.0.0 (Serve s, j))
 unserved told words none.NoDestination s lines status x y old h j is quiet = absurd (h.0.0 (Serve s, j))
 unserved told words none.NoNumbers s lines status x y old h j is quiet = absurd (h.0.0 (Serve s, j))
+unserved told words none.NoJournalBase s lines status x y old h j is quiet = absurd (h.0.0 (Serve s, j))
 unserved told words none.NoServing s lines status x y old h j is quiet = absurd (h.0.0 (Serve s, j))
 unserved told words none.NoBase s lines status x y old h j is quiet = absurd (h.0.0 (Serve s, j))
 
@@ -152,6 +153,7 @@ unreported words (none.Refused text) filter input status x y h j is quiet = absu
 unreported words none.UnknownState filter input status x y h j is quiet = absurd (h.0.0 (Filters filter, j))
 unreported words none.NoDestination filter input status x y h j is quiet = absurd (h.0.0 (Filters filter, j))
 unreported words none.NoNumbers filter input status x y h j is quiet = absurd (h.0.0 (Filters filter, j))
+unreported words none.NoJournalBase filter input status x y h j is quiet = absurd (h.0.0 (Filters filter, j))
 unreported words none.NoServing filter input status x y h j is quiet = absurd (h.0.0 (Filters filter, j))
 unreported words none.NoBase filter input status x y h j is quiet = absurd (h.0.0 (Filters filter, j))
 

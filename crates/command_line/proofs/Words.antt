@@ -14,7 +14,7 @@ use Rattle.command_line.specs.Views.{Says, SaysUnread, Tells, statuses_of, told,
 use Rattle.std.specs.List.{list_any}
 use Rattle.std.specs.Io.KnownBytes.{Appends}
 use Rattle.command_line.specs.declared.job.NoJob.{NoJob}
-use Rattle.command_line.specs.declared.job.NoJob.TheVariants.{NoBase, NoDestination, NoMemory, NoNumbers, NoServing, Question, Refused, UnknownState}
+use Rattle.command_line.specs.declared.job.NoJob.TheVariants.{NoBase, NoDestination, NoJournalBase, NoMemory, NoNumbers, NoServing, Question, Refused, UnknownState}
 use Rattle.command_line.proofs.Purity.{IsPure, fault_is_pure}
 
 no_job : (words : List Text) → fault_of whole words ≢ [] → IsJob words → ⊥
@@ -43,6 +43,7 @@ told_of words error (Refused text) h s = refusal words (kind_of error) (fault_is
 told_of words error UnknownState h s = absurd s
 told_of words error NoDestination h s = absurd s
 told_of words error NoNumbers h s = absurd s
+told_of words error NoJournalBase h s = absurd s
 told_of words error NoServing h s = absurd s
 told_of words error NoBase h s = absurd s
 
@@ -57,6 +58,7 @@ unread words found name rows (Refused text) e f g h n = absurd h
 unread words found name rows UnknownState e f g h n = ((n, asks_nothing (fault_of whole words) e), e, ap unread_text (sym f ∙ g) ∙ h)
 unread words found name rows NoDestination e f g h n = ((n, asks_nothing (fault_of whole words) e), e, ap unread_text (sym f ∙ g) ∙ h)
 unread words found name rows NoNumbers e f g h n = ((n, asks_nothing (fault_of whole words) e), e, ap unread_text (sym f ∙ g) ∙ h)
+unread words found name rows NoJournalBase e f g h n = ((n, asks_nothing (fault_of whole words) e), e, ap unread_text (sym f ∙ g) ∙ h)
 unread words found name rows NoServing e f g h n = ((n, asks_nothing (fault_of whole words) e), e, ap unread_text (sym f ∙ g) ∙ h)
 unread words found name rows NoBase e f g h n = ((n, asks_nothing (fault_of whole words) e), e, ap unread_text (sym f ∙ g) ∙ h)
 
@@ -74,5 +76,6 @@ unknown_said words (Refused text) old new status Kept h s t e f k = absurd (h.1 
 unknown_said words UnknownState old new status Kept h s t e f k = subst (Appends old new) (sym h.2) (t e k)
 unknown_said words NoDestination old new status Kept h s t e f k = subst (Appends old new) (sym h.2) (t e k)
 unknown_said words NoNumbers old new status Kept h s t e f k = subst (Appends old new) (sym h.2) (t e k)
+unknown_said words NoJournalBase old new status Kept h s t e f k = subst (Appends old new) (sym h.2) (t e k)
 unknown_said words NoServing old new status Kept h s t e f k = subst (Appends old new) (sym h.2) (t e k)
 unknown_said words NoBase old new status Kept h s t e f k = subst (Appends old new) (sym h.2) (t e k)

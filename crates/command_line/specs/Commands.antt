@@ -22,6 +22,10 @@ preset name value = record (valued name) { defaults = value ∷ [] }
 abbrev pub flag : Text → Rule
 flag name = record (new_rule name) { long = Some name; action = Some SetTrue }
 
+-- a word that stands by itself
+abbrev pub standing : Text → Rule
+standing name = record (new_rule name) { index = Some 1; action = Some Set; value_names = 1; required = true }
+
 -- `cell --state S`
 abbrev pub cell : App
 cell = with_rule (new_app (codes "cell")) (wanted (codes "state"))
@@ -59,9 +63,17 @@ filters = with_subcommand (with_subcommand (with_subcommand top cell.top) check.
 abbrev pub auditing : App
 auditing = with_subcommand filters audit.top
 
+-- `journal [--hex BASE] FILE`
+abbrev pub journal : App
+journal = with_rule (with_rule (new_app (codes "journal")) (valued (codes "hex"))) (standing (codes "file"))
+
+-- with the one that shows a journal
+abbrev pub showing : App
+showing = with_subcommand auditing journal.top
+
 -- with the one that makes its schedule itself
 abbrev pub printing : App
-printing = with_subcommand auditing make.top
+printing = with_subcommand showing make.top
 
 -- `NAME --listen ADDR [--base URL] --journal F [--turns N]`
 abbrev pub silent : Text → App

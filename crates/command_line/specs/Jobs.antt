@@ -1,5 +1,5 @@
 -- What the words are: a job, a question for the help or the version, or faulty.
-use Rattle.std.specs.Prelude.{ℕ, List, [], ◌∷◌, ◌++◌, ◌-◌, ◌^◌, ◌≡◌, Bool, true, false, ◌&&◌, ◌||◌, ◌==◌, bytes_eq, decimal, drop, is_some, nat_le, not, length, take, if◌then◌else◌, Option, Some, None, Ok, codes, IsSomeAnd, IsTrue}
+use Rattle.std.specs.Prelude.{ℕ, List, [], ◌∷◌, ◌++◌, ◌-◌, ◌^◌, ◌≡◌, Bool, true, false, ◌&&◌, ◌||◌, ◌==◌, ◌⊎◌, bytes_eq, decimal, drop, is_some, nat_le, not, length, take, if◌then◌else◌, Option, Some, None, Ok, codes, IsSomeAnd, IsTrue}
 use Rattle.std.specs.List.{list_all}
 use Rattle.at_base.specs.declared.limits.TheConstants.{MOST_ENDPOINT}
 use Rattle.addressing.specs.PostAddresses.{post_to_of}
@@ -15,6 +15,7 @@ use Rattle.clap.specs.declared.error.kind.ErrorKind.{ErrorKind}
 use Rattle.clap.specs.declared.error.kind.ErrorKind.TheVariants.{DisplayHelp, DisplayVersion}
 use Rattle.replay_cmd.specs.declared.options.Options.{Options}
 use Rattle.schedules.specs.Values.{number_in}
+use Rattle.journal_cmd.specs.Bases.{is_journal_base}
 use Rattle.command_line.specs.Commands.{whole}
 
 -- what reads its input to the end, and prints what it makes of it
@@ -55,6 +56,10 @@ pub data Job : Type 0 where
   Filters : Filter → Job
   -- what the journals of several nodes say together
   Audit : Job
+  -- what the journal in a file of this name stands for
+  Show : List ℕ → Job
+  -- its line for an audit, of a node with this base
+  ShowLine : List ℕ → List ℕ → Job
   -- how so many lines that are made of a seed come out
   Make : ℕ → ℕ → Job
   -- a post to this destination, which asks a node for what is due
@@ -152,6 +157,9 @@ MeansServing name rows s =
 abbrev pub Means : Text → List Row → Job → Type 0
 Means name rows (Filters filter) = MeansFilter name rows filter
 Means name rows Audit = name ≡ codes "audit"
+Means name rows (Show file) = (name ≡ codes "journal") × (first_of (codes "file") rows ≡ Some file) × (first_of (codes "hex") rows ≡ None)
+Means name rows (ShowLine base file) =
+    (name ≡ codes "journal") × (first_of (codes "file") rows ≡ Some file) × (first_of (codes "hex") rows ≡ Some base) × (is_journal_base base ≡ true)
 Means name rows (Make seed steps) = (name ≡ codes "make") × MeansMade rows seed steps
 Means name rows (Tick to) = (name ≡ codes "tick") × IsSomeAnd (first_of (codes "to") rows) (λ url. tick_to url ≡ Some to)
 Means name rows (Serve s) = MeansServing name rows s
@@ -170,6 +178,10 @@ IsFilter words = (filter : Filter) × IsJobOf words (Filters filter)
 -- they ask for an audit, which reads its input too
 abbrev pub IsAudit : List Text → Type 0
 IsAudit words = IsJobOf words Audit
+
+-- they ask what a journal stands for, or for its line
+abbrev pub IsShow : List Text → Type 0
+IsShow words = ((file : List ℕ) × IsJobOf words (Show file)) ⊎ ((base : List ℕ) × (file : List ℕ) × IsJobOf words (ShowLine base file))
 
 -- they are a node that serves
 abbrev pub IsServing : List Text → Type 0

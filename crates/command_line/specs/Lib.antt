@@ -6,3 +6,4 @@ pub mod Views
 pub mod Ticks
 pub mod Servings
 pub mod Audits
+pub mod Journals

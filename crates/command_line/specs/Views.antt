@@ -18,7 +18,7 @@ use Rattle.command_line.specs.declared.job.Serving.{Serving as NamedServing}
 use Rattle.command_line.specs.Jobs.{Filter, IsFaulty, IsQuestion, Job, Role, Serving, asks_for, is_wildcard}
 use Rattle.command_line.specs.Jobs.Role.{Coordinator, Participant, Initiator}
 use Rattle.command_line.specs.Jobs.Filter.{Cell, Check, Replay}
-use Rattle.command_line.specs.Jobs.Job.{Audit, Filters, Make, Serve, Tick}
+use Rattle.command_line.specs.Jobs.Job.{Audit, Filters, Make, Serve, Show, ShowLine, Tick}
 
 abbrev pub meant_filter : NamedFilter → Filter
 meant_filter (filters.Cell state) = Cell state
@@ -36,6 +36,8 @@ meant_serving s = record { role = meant_role s.role; listen = s.listen.now; base
 abbrev pub meant : Named → Job
 meant (named.Filter filter) = Filters (meant_filter filter)
 meant named.Audit = Audit
+meant (named.Show file) = Show file.now
+meant (named.ShowLine base file) = ShowLine base.now file.now
 meant (named.Make seed steps) = Make seed steps
 meant (named.Tick to) = Tick to
 meant (named.Serve s) = Serve (meant_serving s)
@@ -51,6 +53,10 @@ no_destination = codes "error: invalid value for '--to <URL>'\n  [an http URL, w
 -- or what the numbers are of which a schedule is made
 unfoldable pub no_numbers : List ℕ
 no_numbers = codes "error: invalid value for '--seed <SEED>' or '--steps <N>'\n  [SEED: 0 to 18446744073709551615; N: 0 to 9999]\n\nFor more information, try '--help'.\n"
+
+-- or what the base is of a node whose journal is audited
+unfoldable pub no_journal_base : List ℕ
+no_journal_base = codes "error: invalid value for '--hex <BASE>'\n  [an http URL of at most 1024 bytes, without a slash at its end, behind which a path may stand]\n\nFor more information, try '--help'.\n"
 
 -- or what the address, the base and the number of a node that serves are
 unfoldable pub no_serving : List ℕ
@@ -74,6 +80,7 @@ abbrev pub unread_at : Text → List Row → List ℕ
 unread_at name rows =
     if bytes_eq name (codes "tick") then no_destination
     else if bytes_eq name (codes "make") then no_numbers
+    else if bytes_eq name (codes "journal") then no_journal_base
     else if bytes_eq name (codes "cell") then unknown_state
     else unread_serving rows
 
@@ -89,6 +96,7 @@ Tells words (none.Refused text) = IsFaulty words × (fault_of whole words ≢ []
 Tells words none.UnknownState = IsFaulty words × (fault_of whole words ≡ []) × (unread_text (subcommand_of whole words) ≡ unknown_state)
 Tells words none.NoDestination = IsFaulty words × (fault_of whole words ≡ []) × (unread_text (subcommand_of whole words) ≡ no_destination)
 Tells words none.NoNumbers = IsFaulty words × (fault_of whole words ≡ []) × (unread_text (subcommand_of whole words) ≡ no_numbers)
+Tells words none.NoJournalBase = IsFaulty words × (fault_of whole words ≡ []) × (unread_text (subcommand_of whole words) ≡ no_journal_base)
 Tells words none.NoServing = IsFaulty words × (fault_of whole words ≡ []) × (unread_text (subcommand_of whole words) ≡ no_serving)
 Tells words none.NoBase = IsFaulty words × (fault_of whole words ≡ []) × (unread_text (subcommand_of whole words) ≡ no_base)
 
@@ -100,6 +108,7 @@ Says kind (none.Refused text) = (asks_for kind ≡ false) × (kind ≢ OutOfMemo
 Says kind none.UnknownState = ⊥
 Says kind none.NoDestination = ⊥
 Says kind none.NoNumbers = ⊥
+Says kind none.NoJournalBase = ⊥
 Says kind none.NoServing = ⊥
 Says kind none.NoBase = ⊥
 
@@ -108,6 +117,7 @@ abbrev pub SaysUnread : Text → List Row → NoJob → Type 0
 SaysUnread name rows none.UnknownState = unread_at name rows ≡ unknown_state
 SaysUnread name rows none.NoDestination = unread_at name rows ≡ no_destination
 SaysUnread name rows none.NoNumbers = unread_at name rows ≡ no_numbers
+SaysUnread name rows none.NoJournalBase = unread_at name rows ≡ no_journal_base
 SaysUnread name rows none.NoServing = unread_at name rows ≡ no_serving
 SaysUnread name rows none.NoBase = unread_at name rows ≡ no_base
 SaysUnread name rows _ = ⊥
@@ -125,6 +135,7 @@ statuses_of (none.Refused text) = 2 ∷ []
 statuses_of none.UnknownState = 2 ∷ []
 statuses_of none.NoDestination = 2 ∷ []
 statuses_of none.NoNumbers = 2 ∷ []
+statuses_of none.NoJournalBase = 2 ∷ []
 statuses_of none.NoServing = 2 ∷ []
 statuses_of none.NoBase = 2 ∷ []
 
@@ -136,6 +147,7 @@ told (none.Refused text) = string_bytes text
 told none.UnknownState = unknown_state
 told none.NoDestination = no_destination
 told none.NoNumbers = no_numbers
+told none.NoJournalBase = no_journal_base
 told none.NoServing = no_serving
 told none.NoBase = no_base
 

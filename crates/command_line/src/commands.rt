@@ -2,7 +2,7 @@
 
 ghost use Rattle.std.specs.Prelude.{◌≡◌, false, IfOk, codes};
 ghost use Rattle.clap.specs.Walk.{rule_of};
-ghost use Rattle.command_line.specs.Commands.{IsCommand, valued, wanted, flag, audit, auditing, cell, check, replay, make, coordinating, filters, participating, posting, printing, serving, silent, tick, top, whole};
+ghost use Rattle.command_line.specs.Commands.{IsCommand, valued, wanted, flag, audit, auditing, cell, check, replay, journal, make, coordinating, filters, participating, posting, printing, serving, showing, silent, standing, tick, top, whole};
 
 use clap::{Arg, ArgAction, Command};
 use std::alloc::{AllocError, Global};
@@ -24,6 +24,19 @@ fn flag<'a>(alloc: Global, name: &'a str) -> Arg<'a>
     ensures local { result.global ≡ false }
 {
     Arg::new(alloc, name).long(name).action(ArgAction::SetTrue)
+}
+
+/// The word FILE, which stands by itself.
+fn file<'a>(alloc: Global) -> Arg<'a>
+    ensures rule { rule_of result ≡ standing (codes "file") }
+    ensures local { result.global ≡ false }
+{
+    Arg::new(alloc, "file")
+        .index(1)
+        .value_name("FILE")
+        .action(ArgAction::Set)
+        .required(true)
+        .help("The journal's first file; the second has .1 behind this name")
 }
 
 /// `cell --state S`.
@@ -69,6 +82,19 @@ fn audit<'a>(alloc: Global) -> Result<Command<'a>, AllocError>
     Ok(Command::new(alloc, "audit").about(
         "Print whether the outcomes that nodes' journals record agree, whatever the transactions",
     ))
+}
+
+/// `journal [--hex BASE] FILE`.
+fn shown<'a>(alloc: Global) -> Result<Command<'a>, AllocError>
+    ensures { IfOk result (IsCommand journal) }
+{
+    let hex = valued(alloc, "hex", "BASE").help(
+        "Print the line of this journal for an audit, of a node with this base",
+    );
+    Command::new(alloc, "journal")
+        .about("Print what a node's journal stands for, which is left as it is")
+        .arg(hex)?
+        .arg(file(alloc))
 }
 
 /// `make --seed S --steps N`.
@@ -128,11 +154,18 @@ fn auditing<'a>(alloc: Global) -> Result<Command<'a>, AllocError>
     filters(alloc)?.subcommand(audit(alloc)?)
 }
 
+/// With the one that shows a journal.
+fn showing<'a>(alloc: Global) -> Result<Command<'a>, AllocError>
+    ensures { IfOk result (IsCommand showing) }
+{
+    auditing(alloc)?.subcommand(shown(alloc)?)
+}
+
 /// With the one that makes its schedule itself.
 fn printing<'a>(alloc: Global) -> Result<Command<'a>, AllocError>
     ensures { IfOk result (IsCommand printing) }
 {
-    auditing(alloc)?.subcommand(make(alloc)?)
+    showing(alloc)?.subcommand(make(alloc)?)
 }
 
 /// `--listen ADDR`.

@@ -25,6 +25,7 @@ use at_base::text::Text;
 use at_tables::cells::State;
 use clap::error::ErrorKind;
 use clap::{ArgMatches, Error};
+use journal_cmd::base::is_journal_base;
 use replay_cmd::options::Options;
 use schedules::values::{read_long, read_number, read_small};
 use std::alloc::{AllocError, Global};
@@ -69,6 +70,10 @@ pub enum Job<'a> {
     Filter(Filter<'a>),
     /// `audit`.
     Audit,
+    /// `journal FILE`.
+    Show(&'a str),
+    /// `journal --hex BASE FILE`.
+    ShowLine { base: &'a str, file: &'a str },
     /// `make --seed S --steps N`.
     Make { seed: u64, steps: u16 },
     /// `tick --to U`.
@@ -91,6 +96,8 @@ pub enum NoJob {
     NoDestination,
     /// No schedule is made of these numbers.
     NoNumbers,
+    /// No node has that base.
+    NoJournalBase,
     /// No node listens there, is reached there, or serves so many connections.
     NoServing,
     /// It would listen at every address of its machine, and nothing says how others reach it.
@@ -336,13 +343,30 @@ fn read_serving<'a>(
     }))
 }
 
+/// What is shown of a journal. None where there is no file, or the base is none.
+fn read_show<'a>(alloc: Global, found: &ArgMatches<'a>) -> Result<Option<Job<'a>>, AllocError>
+    ensures found { IfOk result (λ job. IfSome job (λ job. Means (codes "journal") (rows_of (found_of found.now)) (meant job))) }
+    ensures every { IfOk result (λ found_job. (job : Meant) → Means (codes "journal") (rows_of (found_of found.now)) job → option_map meant found_job ≡ Some job) }
+{
+    let Some(file) = text_at(found, "file") else {
+        return Ok(None);
+    };
+    let Some(base) = text_at(found, "hex") else {
+        return Ok(Some(Job::Show(file)));
+    };
+    if !is_journal_base(alloc, base)? {
+        return Ok(None);
+    }
+    Ok(Some(Job::ShowLine { base, file }))
+}
+
 /// A filter, or a node that serves.
 fn read_longer<'a>(
     alloc: Global,
     name: &str,
     found: &ArgMatches<'a>,
 ) -> Result<Option<Job<'a>>, AllocError>
-    requires { (name.now ≢ codes "tick") × (name.now ≢ codes "make") × (name.now ≢ codes "audit") }
+    requires { (name.now ≢ codes "tick") × (name.now ≢ codes "make") × (name.now ≢ codes "audit") × (name.now ≢ codes "journal") }
     ensures found { IfOk result (λ job. IfSome job (λ job. Means name.now (rows_of (found_of found.now)) (meant job))) }
     ensures every { IfOk result (λ found_job. (job : Meant) → Means name.now (rows_of (found_of found.now)) job → option_map meant found_job ≡ Some job) }
 {
@@ -374,6 +398,7 @@ fn read_job<'a>(
             None => Ok(None),
         },
         "audit" => Ok(Some(Job::Audit)),
+        "journal" => read_show(alloc, found),
         _ => read_longer(alloc, name, found),
     }
 }
@@ -406,6 +431,7 @@ fn unread(name: &str, found: &ArgMatches<'_>) -> NoJob
     match name {
         "tick" => NoJob::NoDestination,
         "make" => NoJob::NoNumbers,
+        "journal" => NoJob::NoJournalBase,
         "cell" => NoJob::UnknownState,
         _ => unread_serving(found),
     }

@@ -8,15 +8,16 @@ ghost use Rattle.addressing.specs.declared.post_to.PostTo.{PostTo};
 ghost use Rattle.clap.specs.Faults.{fault_of};
 ghost use Rattle.clap.specs.Simple.{subcommand_of};
 ghost use Rattle.command_line.specs.Commands.{whole};
-ghost use Rattle.command_line.specs.Jobs.{Filter as Filtering, IsAudit, IsFaulty, IsFilter, IsInitiator, IsJob, IsJobOf, IsQuestion, IsServing, Serving as Served, is_replay};
+ghost use Rattle.command_line.specs.Jobs.{Filter as Filtering, IsAudit, IsFaulty, IsFilter, IsInitiator, IsJob, IsJobOf, IsQuestion, IsServing, IsShow, Serving as Served, is_replay};
 ghost use Rattle.command_line.specs.Reports.{HasNoRoomFor, HasTooManyEventsFor, IsCut, IsDone, IsReport, Reports, status_of};
 ghost use Rattle.command_line.specs.Audits.{HasAudited};
-ghost use Rattle.command_line.specs.Jobs.Job.{Filters, Make, Serve, Tick};
+ghost use Rattle.command_line.specs.Journals.{HasShown, HasShownLine};
+ghost use Rattle.command_line.specs.Jobs.Job.{Filters, Make, Serve, Show, ShowLine, Tick};
 ghost use Rattle.command_line.specs.Servings.{HasServed, Initiates, initiates};
 ghost use Rattle.command_line.specs.Summaries.{IsSummed, IsSummedInPart};
 ghost use Rattle.net_replay.specs.declared.replay_error.ReplayError.TheVariants.{Full, NoMemory, TooManyEvents};
 ghost use Rattle.command_line.specs.Ticks.{FailedToTick, HasTicked};
-ghost use Rattle.command_line.specs.Views.{meant_filter, no_base, no_destination, no_numbers, no_serving, statuses_of, told, unknown_state, unread_text, Leaves};
+ghost use Rattle.command_line.specs.Views.{meant_filter, no_base, no_destination, no_journal_base, no_numbers, no_serving, statuses_of, told, unknown_state, unread_text, Leaves};
 
 use crate::job::{Filter, Job, NoJob, job_of};
 use crate::make::make;
@@ -27,6 +28,8 @@ use audit_cmd::audit::audit;
 use envelope_cmd::cell::cell;
 use envelope_cmd::check::check;
 use envelope_cmd::output::Printed;
+use journal_cmd::files::Files;
+use journal_cmd::journal::{journal, journal_line};
 use net_replay::replay_error::ReplayError;
 use site_model::sink::{Sink, write_all};
 use site_model::site::Site;
@@ -145,6 +148,15 @@ fn no_numbers() -> &'static str
 For more information, try '--help'.\n"
 }
 
+/// What is said of the base of a node whose journal is audited.
+fn no_journal_base() -> &'static str
+    ensures { result.now ≡ no_journal_base }
+{
+    "error: invalid value for '--hex <BASE>'\n  \
+[an http URL of at most 1024 bytes, without a slash at its end, behind which a path may stand]\n\n\
+For more information, try '--help'.\n"
+}
+
 /// What is said of an address, a base or a number of a node that serves.
 fn no_serving() -> &'static str
     ensures { result.now ≡ no_serving }
@@ -182,6 +194,7 @@ fn tell<K: Sink, E: Sink>(sink: &mut K, errors: &mut E, reason: &NoJob) -> u8
         NoJob::UnknownState => complain(errors, unknown_state()),
         NoJob::NoDestination => complain(errors, no_destination()),
         NoJob::NoNumbers => complain(errors, no_numbers()),
+        NoJob::NoJournalBase => complain(errors, no_journal_base()),
         NoJob::NoServing => complain(errors, no_serving()),
         NoJob::NoBase => complain(errors, no_base()),
     }
@@ -229,19 +242,21 @@ fn filter<S: Source, K: Sink>(
 /// `cell --state S` reads one envelope from the source, and prints the cell of state S that it meets and the envelope
 /// that the cell posts. `check [--path P]` prints what the envelope says, line by line. `replay` reads a schedule, and
 /// prints its report; `replay --settle` brings its world to rest behind the last line. `audit` reads the journals of several nodes, and
-/// prints whether the outcomes that they record agree. `make --seed S --steps N` reads
+/// prints whether the outcomes that they record agree. `journal [--hex BASE] FILE` reads the files of a node's journal, and prints
+/// what they stand for, or their line for an audit. `make --seed S --steps N` reads
 /// nothing, and prints how the schedule of a seed comes out. All that these print is made in memory before the first write.
 /// `tick --to U` posts to U`/tick`, and reads and prints nothing. `--help` and `--version` are answered without a look at
 /// the source. Of words that clap refuses, and of a value that doesn't read, the errors are told why, and nothing is printed.
 /// `coordinator`, `participant` and `initiator` serve a node (`serving`), the last after it has read its lines from the source.
 /// But for these and for `tick` the site stays as it is.
 #[tactic(auto, using(crate::proofs::Words::unknown_said, crate::proofs::Summaries::few_steps, crate::proofs::Servings::unread_by))]
-pub fn run<S: Source, K: Sink, E: Sink, H: Site>(
+pub fn run<S: Source, K: Sink, E: Sink, F: Files, H: Site>(
     alloc: Global,
     words: &[String],
     source: &mut S,
     sink: &mut K,
     errors: &mut E,
+    files: &mut F,
     site: &mut H,
 ) -> u8
     ensures statuses { IsTrue (list_any (nat_eq result) (0 ∷ 2 ∷ 3 ∷ 4 ∷ 5 ∷ 6 ∷ 7 ∷ 8 ∷ 9 ∷ 10 ∷ 11 ∷ 12 ∷ 13 ∷ 14 ∷ [])) }
@@ -257,6 +272,9 @@ pub fn run<S: Source, K: Sink, E: Sink, H: Site>(
     ensures complained { result ≡ 2 → (said : List ℕ) × Appends (E.contents errors.old) (E.contents errors.new) said }
     ensures unknown { result ≡ 2 → fault_of whole (map string_bytes words.now) ≡ [] → ¬ (Rose (E.faults errors.old) (E.faults errors.new)) → Appends (E.contents errors.old) (E.contents errors.new) (unread_text (subcommand_of whole (map string_bytes words.now))) }
     ensures untouched { ((to : PostTo) → ¬ (IsJobOf (map string_bytes words.now) (Tick to))) → ¬ (IsServing (map string_bytes words.now)) → site.new ≡ site.old }
+    ensures unopened { ¬ (IsShow (map string_bytes words.now)) → files.new ≡ files.old }
+    ensures shown { (file : List ℕ) → IsJobOf (map string_bytes words.now) (Show file) → HasShown (F.told files.old) (F.faults files.old) (F.faults files.new) file (K.contents sink.old) (K.contents sink.new) result }
+    ensures shown_line { (base file : List ℕ) → IsJobOf (map string_bytes words.now) (ShowLine base file) → HasShownLine (F.told files.old) (F.faults files.old) (F.faults files.new) base file (K.contents sink.old) (K.contents sink.new) result }
     ensures audited { IsAudit (map string_bytes words.now) → HasAudited (S.left source.old) (S.given source.old) (S.given source.new) (K.contents sink.old) (K.contents sink.new) result }
     ensures making { (seed steps : ℕ) → IsJobOf (map string_bytes words.now) (Make seed steps) → IsTrue (list_any (nat_eq result) (0 ∷ 5 ∷ 9 ∷ [])) }
     ensures summed { (seed steps : ℕ) → IsJobOf (map string_bytes words.now) (Make seed steps) → result ≡ 0 → IsSummed seed steps (K.contents sink.old) (K.contents sink.new) }
@@ -285,6 +303,8 @@ pub fn run<S: Source, K: Sink, E: Sink, H: Site>(
     match job_of(alloc, words) {
         Ok(Job::Filter(chosen)) => filter(alloc, &chosen, source, sink),
         Ok(Job::Audit) => audit(alloc, source, sink),
+        Ok(Job::Show(name)) => journal(alloc, name, files, sink),
+        Ok(Job::ShowLine { base, file }) => journal_line(alloc, base, file, files, sink),
         Ok(Job::Make { seed, steps }) => make(alloc, seed, steps, sink),
         Ok(Job::Tick(to)) => tick(alloc, &to, site),
         Ok(Job::Serve(serving)) => serve_node(alloc, &serving, source, sink, site),

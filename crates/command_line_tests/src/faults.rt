@@ -4,6 +4,7 @@ use crate::commands::notice;
 use crate::reports::PLAIN;
 use crate::top_call::{prints, words_of};
 use command_line::run::run;
+use journal_cmd::memory_files::MemoryFiles;
 use site_model::memory::{MemSink, MemSource};
 use site_model::sink::Sink;
 use site_model::source::Failed;
@@ -60,6 +61,7 @@ fn cut_off(alloc: Global, room: usize, left: &[u8]) -> Result<(u8, bool), AllocE
         &mut source,
         &mut sink,
         &mut errors,
+        &mut MemoryFiles::new(alloc),
         &mut SureSite::new(),
     );
     Ok((status, sink.bytes.as_slice() == left))
@@ -114,6 +116,7 @@ fn faulty(
         &mut source,
         &mut sink,
         &mut errors,
+        &mut MemoryFiles::new(rt.alloc()),
         &mut SureSite::new(),
     ))
 }

@@ -3,6 +3,7 @@
 use crate::top_call::words_of;
 use command_line::run::run;
 use entry_point::program::with_words;
+use journal_cmd::memory_files::MemoryFiles;
 use site_model::memory::{MemSink, MemSource};
 use site_model::sure_site::SureSite;
 use std::alloc::{AllocError, Global};
@@ -24,6 +25,7 @@ fn ends_with(alloc: Global, words: io::Result<Args>, status: u8) -> Result<bool,
         &mut source,
         &mut sink,
         &mut errors,
+        &mut MemoryFiles::new(alloc),
         &mut site,
         run,
     );

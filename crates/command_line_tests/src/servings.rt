@@ -2,6 +2,7 @@
 
 use crate::top_call::{are_said, words_of};
 use command_line::run::run;
+use journal_cmd::memory_files::MemoryFiles;
 use site_memory::machine::MemSite;
 use site_model::memory::{MemSink, MemSource};
 use site_model::sink::Sink;
@@ -28,6 +29,7 @@ fn serves<H: Site>(
         &mut source,
         &mut sink,
         &mut errors,
+        &mut MemoryFiles::new(alloc),
         site,
     );
     Ok((status, are_said(status, &sink, &errors, printed)))

@@ -1,6 +1,7 @@
 //! `tick` over a machine in memory.
 
 use command_line::run::run;
+use journal_cmd::memory_files::MemoryFiles;
 use site_memory::machine::MemSite;
 use site_model::memory::{MemSink, MemSource};
 use std::alloc::{AllocError, Global};
@@ -27,6 +28,7 @@ fn ticks(alloc: Global, site: &mut MemSite, url: &str) -> Result<(u8, Vec<u8>), 
         &mut source,
         &mut sink,
         &mut errors,
+        &mut MemoryFiles::new(alloc),
         site,
     );
     let said = if status == 2 { errors } else { sink };

@@ -2,6 +2,7 @@
 
 use command_line::run::run;
 use entry_point::help::heard;
+use journal_cmd::memory_files::MemoryFiles;
 use site_model::memory::{MemSink, MemSource};
 use site_model::sure_site::SureSite;
 use std::alloc::{AllocError, Global};
@@ -42,6 +43,7 @@ pub fn prints(
         &mut source,
         &mut sink,
         &mut errors,
+        &mut MemoryFiles::new(rt.alloc()),
         &mut SureSite::new(),
     );
     Ok((status, are_said(status, &sink, &errors, printed)))
@@ -59,6 +61,7 @@ pub fn printed(alloc: Global, line: &str, input: &[u8]) -> Result<Vec<u8>, Alloc
         &mut source,
         &mut sink,
         &mut errors,
+        &mut MemoryFiles::new(alloc),
         &mut SureSite::new(),
     );
     if status != 0 {

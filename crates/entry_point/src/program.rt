@@ -22,17 +22,25 @@ const NO_JOB: u8 = 2;
 const NO_MEMORY: u8 = 9;
 
 /// Calls the job on all words but the first, as they are heard, and gives its status.
-fn status_of<S, K, E, H, F: FnOnce(Global, &[String], &mut S, &mut K, &mut E, &mut H) -> u8>(
+fn status_of<
+    S,
+    K,
+    E,
+    L,
+    H,
+    F: FnOnce(Global, &[String], &mut S, &mut K, &mut E, &mut L, &mut H) -> u8,
+>(
     alloc: Global,
     words: Args,
     source: &mut S,
     sink: &mut K,
     errors: &mut E,
+    files: &mut L,
     site: &mut H,
     job: F,
 ) -> u8
     requires { F.IsAlwaysCallable job }
-    ensures { CalledOrNot F.FnOnce (map string_bytes) job alloc (heard (map string_bytes (drop 1 (into_iter_items words)))) result source.old source.new sink.old sink.new errors.old errors.new site.old site.new }
+    ensures { CalledOrNot F.FnOnce (map string_bytes) job alloc (heard (map string_bytes (drop 1 (into_iter_items words)))) result source.old source.new sink.old sink.new errors.old errors.new files.old files.new site.old site.new }
 {
     let Ok(behind) = behind_name(alloc, words) else {
         return NO_MEMORY;
@@ -40,7 +48,7 @@ fn status_of<S, K, E, H, F: FnOnce(Global, &[String], &mut S, &mut K, &mut E, &m
     let Ok(heard) = heard(alloc, behind) else {
         return NO_MEMORY;
     };
-    job(alloc, heard.as_slice(), source, sink, errors, site)
+    job(alloc, heard.as_slice(), source, sink, errors, files, site)
 }
 
 /// The status where the words can't be had.
@@ -57,21 +65,31 @@ fn status_without(fault: &io::Error) -> u8
 /// process ends with. `help` alone, or before one word, is read as `--help` behind that. The words are those of
 /// `env::args`. Where there is no memory for them the status is 9, and where it gives none for another reason (one isn't
 /// UTF-8) 2; the job isn't called then.
-pub fn with_words<S, K, E, H, F: FnOnce(Global, &[String], &mut S, &mut K, &mut E, &mut H) -> u8>(
+pub fn with_words<
+    S,
+    K,
+    E,
+    L,
+    H,
+    F: FnOnce(Global, &[String], &mut S, &mut K, &mut E, &mut L, &mut H) -> u8,
+>(
     alloc: Global,
     words: io::Result<Args>,
     source: &mut S,
     sink: &mut K,
     errors: &mut E,
+    files: &mut L,
     site: &mut H,
     job: F,
 ) -> ExitCode
     requires { F.IsAlwaysCallable job }
-    ensures called { IfOk words (λ given. CalledOrNot F.FnOnce (map string_bytes) job alloc (heard (map string_bytes (drop 1 (into_iter_items given)))) (exit_status result) source.old source.new sink.old sink.new errors.old errors.new site.old site.new) }
-    ensures wordless { IfErr words (λ fault. (exit_status result ≡ status_without (error_kind fault)) × (source.new ≡ source.old) × (sink.new ≡ sink.old) × (errors.new ≡ errors.old) × (site.new ≡ site.old)) }
+    ensures called { IfOk words (λ given. CalledOrNot F.FnOnce (map string_bytes) job alloc (heard (map string_bytes (drop 1 (into_iter_items given)))) (exit_status result) source.old source.new sink.old sink.new errors.old errors.new files.old files.new site.old site.new) }
+    ensures wordless { IfErr words (λ fault. (exit_status result ≡ status_without (error_kind fault)) × (source.new ≡ source.old) × (sink.new ≡ sink.old) × (errors.new ≡ errors.old) × (files.new ≡ files.old) × (site.new ≡ site.old)) }
 {
     match words {
-        Ok(words) => ExitCode::from(status_of(alloc, words, source, sink, errors, site, job)),
+        Ok(words) => ExitCode::from(status_of(
+            alloc, words, source, sink, errors, files, site, job,
+        )),
         Err(fault) => ExitCode::from(status_without(&fault)),
     }
 }

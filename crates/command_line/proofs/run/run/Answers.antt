@@ -6,6 +6,10 @@ use Rattle.command_line.specs.Views.{meant, meant_serving}
 use Rattle.command_line.proofs.Audits.{unaudited}
 use Rattle.command_line.proofs.Summaries.{summed_as}
 use Rattle.command_line.proofs.Servings.{initiated_as, served_as, unread_by, unreported, unserved}
+use Rattle.command_line.specs.Jobs.Job.{Show, ShowLine}
+use Rattle.std.specs.Io.KnownBytes.{Appends}
+use Rattle.std.proofs.Common.{sym}
+use Rattle.command_line.proofs.Journals.{lined_as, nothing, shown_as, unlined, unshown}
 use Rattle.command_line.proofs.run.run.Goals as goal
 
 pub returns-in-Ok-Make-clause-summed : goal.returns-in-Ok-Make-clause-summed
@@ -48,3 +52,32 @@ returns-in-Err-clause-served g c = λ serving job other.
 pub returns-in-Err-clause-report : goal.returns-in-Err-clause-report
 returns-in-Err-clause-report g c = λ filter input job left few source sink.
     unreported (map string_bytes c.args.words.now) c.in-Err.reason filter input _ _ _ c.in-Err.ensures.none job c.tell.ensures.statuses c.tell.ensures.silent
+
+pub returns-in-Ok-Show-clause-shown : goal.returns-in-Ok-Show-clause-shown
+returns-in-Ok-Show-clause-shown g c = λ file job.
+    shown_as _ _ _ c.in-Ok-Show.name.now file _ _ _ (subst (λ z. meant z ≡ Show file) c.in-Ok-Show.field-0-is (c.in-Ok-Show.ensures.every (Show file) job)) (record {
+      statuses = c.journal.ensures.statuses;
+      unread = c.journal.ensures.unread;
+      quiet = λ k. subst (λ z. Appends (g.K.Sink.contents c.args.sink.now) (g.K.Sink.contents z) []) (sym (c.journal.ensures.quiet k)) (nothing _);
+      printed = c.journal.ensures.printed;
+      part = c.journal.ensures.part;
+    })
+
+pub returns-in-Ok-ShowLine-clause-shown_line : goal.returns-in-Ok-ShowLine-clause-shown_line
+returns-in-Ok-ShowLine-clause-shown_line g c = λ base file job.
+    lined_as _ _ _ c.in-Ok-ShowLine.base.now c.in-Ok-ShowLine.file.now base file _ _ _
+    (subst (λ z. meant z ≡ ShowLine base file) c.in-Ok-ShowLine.field-0-is (c.in-Ok-ShowLine.ensures.every (ShowLine base file) job)) (record {
+      statuses = c.journal_line.ensures.statuses;
+      unread = c.journal_line.ensures.unread;
+      quiet = λ k. subst (λ z. Appends (g.K.Sink.contents c.args.sink.now) (g.K.Sink.contents z) []) (sym (c.journal_line.ensures.quiet k)) (nothing _);
+      printed = c.journal_line.ensures.printed;
+      part = c.journal_line.ensures.part;
+    })
+
+pub returns-in-Err-clause-shown : goal.returns-in-Err-clause-shown
+returns-in-Err-clause-shown g c = λ file job.
+    unshown _ _ _ _ _ (map string_bytes c.args.words.now) c.in-Err.reason file _ c.in-Err.ensures.none job c.tell.ensures.statuses c.tell.ensures.silent
+
+pub returns-in-Err-clause-shown_line : goal.returns-in-Err-clause-shown_line
+returns-in-Err-clause-shown_line g c = λ base file job.
+    unlined _ _ _ _ _ (map string_bytes c.args.words.now) c.in-Err.reason base file _ c.in-Err.ensures.none job c.tell.ensures.statuses c.tell.ensures.silent
