@@ -378,6 +378,7 @@ cell         Print the cell that an envelope meets in a state, and the envelope 
 check        Print what an envelope says, line by line\n  \
 replay       Print what the lines of a schedule bring about, line by line\n  \
 audit        Print whether the outcomes that nodes' journals record agree, whatever the transactions\n  \
+journal      Print what a node's journal stands for, which is left as it is\n  \
 make         Print how a schedule that is made of a seed comes out\n  \
 tick         Ask a node to do what is due\n  \
 coordinator  Serve as a coordinator\n  \
