@@ -1,6 +1,6 @@
 //! Files that are read, and neither locked nor changed.
 
-ghost use Rattle.std.specs.Prelude.{ℕ, List, Option, Some, ◌≡◌, ◌≤◌, IfOk, length};
+ghost use Rattle.std.specs.Prelude.{ℕ, Option, Some, ◌≡◌, ◌≤◌, IfOk, length};
 ghost use Rattle.journal_cmd.specs.Folders.{Answers, FileCause, Held};
 
 /// Why bytes of a file weren't read.

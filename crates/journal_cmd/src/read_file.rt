@@ -1,6 +1,6 @@
 //! A file that is read whole.
 
-ghost use Rattle.std.specs.Prelude.{ℕ, Some, None, Ok, Err, true, ◌≡◌, ◌≤◌, ◌<◌, IfOk, length};
+ghost use Rattle.std.specs.Prelude.{Some, None, Ok, Err, true, ◌≡◌, ◌<◌, IfOk, length};
 ghost use Rattle.journal_cmd.specs.Folders.{Held, IsBeginning, IsPiece, ReadCause};
 ghost use Rattle.journal_cmd.specs.declared.read_file.Unread.TheVariants.{Missing};
 

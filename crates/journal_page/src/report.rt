@@ -2,10 +2,8 @@
 
 ghost use Rattle.std.specs.Prelude.{◌≡◌, ◌++◌, IfOk, OnOk};
 ghost use Rattle.decision_log.specs.KeptState.{known};
-ghost use Rattle.decision_log.specs.Folds.{AreRecords};
-ghost use Rattle.journal_at.specs.Scans.{records_in};
 ghost use Rattle.journal_page.specs.Contents.{Contents, StandFor};
-ghost use Rattle.journal_page.specs.Pages.{IsPageOf, bad_line, bad_page, head_lines, lines_of, version_number, whole_page};
+ghost use Rattle.journal_page.specs.Pages.{IsPageOf, bad_page, head_lines, lines_of, version_number, whole_page};
 ghost use Rattle.journal_page.specs.Wholes.{IsWholeOf};
 
 use crate::entries::entries_of;

@@ -1,6 +1,6 @@
 //! The words that a page is made of.
 
-ghost use Rattle.std.specs.Prelude.{◌≡◌, ◌++◌, OnOk, codes};
+ghost use Rattle.std.specs.Prelude.{◌≡◌, ◌++◌, OnOk};
 ghost use Rattle.xml_profile.specs.CanonicalText.{text_byte, value_byte};
 ghost use Rattle.journal_page.specs.Words.{each_seat, endpoint_part, endpoint_word, item, number_line, seat_part, seats_part, some_seats, word_byte, word_text};
 
