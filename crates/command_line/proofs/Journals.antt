@@ -1,10 +1,9 @@
 -- A journal that is shown, and words that ask for that, for which there was no memory.
-use Rattle.std.proofs.Common.{◌≡◌, ◌⊎◌, ℕ, List, [], ◌∷◌, Option, Some, None, Bool, true, false, IsTrue, nat_eq, ◌||◌, arith, ap, refl, subst, sym}
+use Rattle.std.proofs.Common.{◌≡◌, ℕ, List, [], ◌∷◌, Option, Some, None, Bool, true, false, IsTrue, nat_eq, ◌||◌, arith, ap, refl, subst, sym}
 use Rattle.std.proofs.lemmas.Bool.{eqb-true}
 use Rattle.std.proofs.lemmas.List.{append-nil}
 use Rattle.std.specs.List.{list_any}
 use Rattle.std.specs.Io.KnownBytes.{Appends}
-use Rattle.site_model.specs.Counts.{Rose}
 use Rattle.clap.specs.Faults.{fault_of}
 use Rattle.clap.specs.Walk.{Text}
 use Rattle.journal_cmd.specs.Folders.{Held}

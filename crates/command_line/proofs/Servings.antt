@@ -1,5 +1,5 @@
 -- What a command that serves did, as the clauses of the top call say it.
-use Rattle.std.proofs.Common.{◌≡◌, ◌+◌, ◌<◌, arith, ℕ, List, [], ◌∷◌, ◌++◌, Bool, true, false, Option, Some, None, Ok, Err, IsTrue, length, take, nat_eq, ◌≤◌, ◌||◌, ◌&&◌, ◌⊎◌, inl, inr, refl, subst, sym, ap, ◌∙◌}
+use Rattle.std.proofs.Common.{◌≡◌, ◌+◌, ◌<◌, arith, ℕ, List, [], ◌∷◌, Bool, true, false, Option, Some, None, Ok, Err, IsTrue, length, take, nat_eq, ◌≤◌, ◌||◌, ◌&&◌, ◌⊎◌, inl, inr, refl, subst, sym, ap, ◌∙◌}
 use Rattle.std.proofs.lemmas.Bool.{eqb-true}
 use Rattle.std.proofs.lemmas.List.{append-nil}
 use Rattle.std.specs.List.{list_any}

@@ -1,5 +1,5 @@
 -- What the commands that serve do.
-use Rattle.std.specs.Prelude.{ℕ, List, [], ◌++◌, ◌∷◌, ◌≡◌, ◌≤◌, ◌⊎◌, Bool, true, false, Ok, Err, Option, IfSome, IsTrue, length, nat_eq, take}
+use Rattle.std.specs.Prelude.{ℕ, List, [], ◌∷◌, ◌≡◌, ◌≤◌, ◌⊎◌, Bool, true, false, Ok, Err, Option, IfSome, IsTrue, length, nat_eq, take}
 use Rattle.std.specs.List.{list_any}
 use Rattle.std.specs.Io.KnownBytes.{Appends}
 use Rattle.schedules.specs.InitiatorLines.{initiator_lines_of}
