@@ -1,0 +1,71 @@
+-- The parts of the calls of steps that were read.
+use Rattle.std.specs.Prelude.{ℕ, List, [], ◌∷◌, ◌++◌, ◌+◌, ◌≡◌, ◌≤◌, ◌⊎◌, Bool, Option, Some, None, true, false, drop, length}
+use Rattle.std.proofs.Common.{ap, arith, inl, inr, refl, subst, sym, ◌∙◌}
+use Rattle.std.proofs.Math.Seq.{drop-append_seam}
+use Rattle.std.proofs.lemmas.List.{append_assoc}
+use Rattle.at_base.specs.declared.record.Record.{Record}
+use Rattle.fated_walks.specs.Fated.{Fated}
+use Rattle.journal_at.specs.declared.journal.Journal.{Journal}
+use Rattle.node_at.specs.Doings.{AreFates, Doing, calls_of}
+use Rattle.node_at.specs.TurnText.{TurnStep}
+use Rattle.node_events.specs.NodeEvents.{all_made}
+use Rattle.site_model.specs.Told.{Made}
+use Rattle.mirrored_nets.specs.Fates.{AllDone, refusals}
+use Rattle.mirrored_nets.proofs.CallRows.{all_refused_none}
+use Rattle.mirrored_nets.proofs.CallsRead.{IsRecordOf, parts, refusals_are}
+use Rattle.mirrored_nets.proofs.TurnsRead.{StepsRead}
+use Rattle.mirrored_nets.proofs.WholeTurns.{unrecorded_calls}
+use Rattle.reading_laws.proofs.ReadStops.{CallParts}
+
+cancel : (xs ys zs : List Made) → xs ++ ys ≡ xs ++ zs → ys ≡ zs
+cancel xs ys zs e = sym (drop-append_seam xs ys) ∙ ap (drop (length xs)) e ∙ drop-append_seam xs zs
+
+-- A record's calls, or none, all of which were done.
+pub record AppendDone (first : List Made) : Type 0 where
+  pub which : (first ≡ []) ⊎ (length first ≡ 4)
+  pub done : AllDone first
+
+append_done : (entry : Option Record) (landed : Bool) (j : Journal) (first : List Made) (refused : ℕ) → IsRecordOf entry landed j first refused → refused ≡ 0 → AppendDone first
+append_done None landed j first refused (e, zero_refused) none = record { which = inl e; done = subst AllDone (sym e) tt }
+append_done (Some r) true j first refused (e, zero_refused) none = record { which = inr (ap length e); done = subst AllDone (sym e) (refl, (refl, (refl, (refl, tt)))) }
+append_done (Some r) false j first refused (b, one_refused) none = absurd (omega (arith, one_refused, none))
+
+module _ (j : Journal) (lines : ℕ) (line made : List Made) (steps : List TurnStep) (doings : List Doing) (fated : List Fated) (R : StepsRead j line made steps doings fated) (long : length line ≡ lines) where
+  abbrev sends : List Made
+  sends = all_made (R.d ∷ R.ds)
+
+  abbrev pub call_parts : CallParts lines made
+  call_parts = record {
+    line = line;
+    first = R.d.first;
+    sends = sends;
+    anew = R.read.anew;
+    are = R.read.are;
+    long = long;
+    parts = parts j line made R.s R.ss R.d R.ds R.read R.f R.fs R.fared R.have R.answered;
+  }
+
+  pub append_is : R.d.refused ≡ 0 → AppendDone R.d.first
+  append_is none = append_done R.s.entry R.s.landed j R.d.first R.d.refused R.read.record_is none
+
+  pub none_refused : AllDone made → R.d.refused ≡ 0
+  none_refused all = let a = R.read.refused in let b = all_refused_none made all in omega (arith, a, b)
+
+  pub refusals_so : refusals made ≡ refusals R.d.first + refusals R.read.anew
+  refusals_so = refusals_are j line made R.s R.ss R.d R.ds R.read R.f R.fs R.fared
+
+  -- the calls behind its steps are those by which the journal was written anew
+  pub anew_same : (live limit : ℕ) (bodies : List (List ℕ)) (anew : List Made) → AreFates live limit bodies steps doings → made ≡ line ++ (calls_of doings ++ anew) → R.read.anew ≡ anew
+  anew_same live limit bodies anew fates are = sym (cancel (R.d.first ++ sends) anew R.read.anew (cancel line ((R.d.first ++ sends) ++ anew) ((R.d.first ++ sends) ++ R.read.anew) both))
+    where
+      here : AreFates live limit bodies (R.s ∷ R.ss) (R.d ∷ R.ds)
+      here = subst (λ z. AreFates live limit bodies z (R.d ∷ R.ds)) R.steps_are (subst (AreFates live limit bodies steps) R.doings_are fates)
+
+      rest : calls_of R.ds ≡ all_made R.ds
+      rest = unrecorded_calls live limit (bodies ++ R.d.landed) R.ss R.ds here.1 R.read.unrecorded
+
+      calls : calls_of doings ≡ R.d.first ++ sends
+      calls = ap calls_of R.doings_are ∙ ap (λ z. (R.d.first ++ R.d.made) ++ z) rest ∙ append_assoc R.d.first R.d.made (all_made R.ds)
+
+      both : line ++ ((R.d.first ++ sends) ++ anew) ≡ line ++ ((R.d.first ++ sends) ++ R.read.anew)
+      both = ap (λ z. line ++ (z ++ anew)) (sym calls) ∙ sym are ∙ R.read.are ∙ ap (λ z. line ++ z) (sym (append_assoc R.d.first sends R.read.anew))
