@@ -3,8 +3,9 @@ use Rattle.std.specs.Prelude.{ℕ, List, [], ◌∷◌, ◌++◌, ◌-◌, ◌�
 use Rattle.node_at.specs.declared.local.Locally.{Locally}
 use Rattle.node_at.specs.declared.turn.Turned.{Turned}
 use Rattle.site_memory.specs.declared.arm.Choice.{Choice}
+use Rattle.site_memory.specs.ToldCalls.{AreArmed}
 use Rattle.site_model.specs.Told.{Made}
-use Rattle.mirrored_nets.specs.Fates.{AllDone, all_done, anew_of, disk_part, fates_in}
+use Rattle.mirrored_nets.specs.Fates.{AllDone, anew_of, disk_part, fates_in}
 use Rattle.mirrored_nets.specs.Kept.{kept_at}
 use Rattle.mirrored_nets.specs.Took.{AnswersSo, EndsSo, HaltsSo, StopsBefore, StopsInStep}
 use Rattle.mirrored_nets.specs.TookAnew.{before_anew}
@@ -15,9 +16,19 @@ use Rattle.mirrored_nets.specs.declared.judged.Armed.TheVariants as calls
 use Rattle.call_readings.specs.declared.became.Became.{Became}
 use Rattle.call_readings.specs.declared.became.Became.TheVariants.{Stays, Falls, Halts, FallsAnew, HaltsAnew}
 
--- The fates that these calls had, behind so many that have none; none is named where all were done.
+-- Each fate behind the last of a list is yes, so those at its end are not named.
+abbrev pub led_by : Bool → List Bool → List Bool
+led_by true [] = []
+led_by true (f ∷ fates) = true ∷ f ∷ fates
+led_by false fates = false ∷ fates
+
+abbrev pub named : List Bool → List Bool
+named [] = []
+named (f ∷ fates) = led_by f (named fates)
+
+-- The fates that these calls had, behind so many that have none.
 abbrev pub read_fates : (lines : ℕ) → List Made → List Bool
-read_fates lines made = if all_done (drop lines made) then [] else fates_in (drop lines made)
+read_fates lines made = named (fates_in (drop lines made))
 
 -- The number, from 1, of the fate that the k-th of calls has: the four of a record's append have the first, if they come, and each answer and
 -- post behind them has one of its own.
@@ -55,7 +66,13 @@ IsUncut calls.No made = Unit {0}
 IsUncut (calls.Fail k) made = Unit {0}
 IsUncut (calls.Stop k choice) made = (k ≡ 0) ⊎ (length made < k)
 
--- The call that failed is the armed one.
+-- the call that is to fail, counted from 1, or 0
+abbrev pub failing_call : Armed → ℕ
+failing_call calls.No = 0
+failing_call (calls.Fail k) = k
+failing_call (calls.Stop k choice) = 0
+
+-- one is armed to fail
 abbrev pub IsFailing : Armed → Type 0
 IsFailing armed = (k : ℕ) × (armed ≡ calls.Fail k)
 
@@ -67,20 +84,25 @@ pub record FailsLast (made : List Made) : Type 0 where
   pub done : AllDone front
   pub fails : last.done ≡ false
 
--- The calls of an event, of which this one was armed. Behind so many that have no fate come those of a record's append, answers and posts, and
--- those by which the journal is written anew.
-abbrev pub Reads : Armed → (lines : ℕ) → List Made → Became → List Bool → Option ℕ → Type 0
+-- What so many calls without a fate, and those behind them, come to: of a record's append, answers and posts, and calls by which the journal is
+-- written anew.
+abbrev pub ReadsAs : Armed → (lines : ℕ) → List Made → Became → List Bool → Option ℕ → Type 0
 -- its steps went to their end; and the journal was written anew, or not, or the last call for that failed and left it as it was
-Reads armed lines made Stays fates until =
+ReadsAs armed lines made Stays fates until =
     IsUncut armed made × (AllDone (anew_of (drop lines made)) ⊎ FailsLast (anew_of (drop lines made))) × (fates ≡ read_fates lines made) × (until ≡ None)
 -- all were done, and the machine goes back to the armed one
-Reads armed lines made (Falls kept choice) fates until =
+ReadsAs armed lines made (Falls kept choice) fates until =
     AllDone made × IsCutInSteps armed lines made kept choice until × (StopsInStep lines made choice fates until kept ⊎ StopsBefore lines fates until kept)
--- a call of a record's gate failed, and no other came behind it
-Reads armed lines made Halts fates until = IsFailing armed × HaltsSo lines made fates until × (anew_of (drop lines made) ≡ [])
-Reads armed lines made (FallsAnew kept choice) fates until = AllDone made × IsCutAnew armed lines made kept choice × (fates ≡ []) × (until ≡ None)
+-- a call of a record's gate failed, and none came behind it
+ReadsAs armed lines made Halts fates until = IsFailing armed × HaltsSo lines made fates until × (anew_of (drop lines made) ≡ [])
+ReadsAs armed lines made (FallsAnew kept choice) fates until = AllDone made × IsCutAnew armed lines made kept choice × (fates ≡ []) × (until ≡ None)
 -- a call of a first gate failed
-Reads armed lines made HaltsAnew fates until = IsFailing armed × FailsLast (anew_of (drop lines made)) × (fates ≡ read_fates lines made) × (until ≡ None)
+ReadsAs armed lines made HaltsAnew fates until = IsFailing armed × FailsLast (anew_of (drop lines made)) × (fates ≡ read_fates lines made) × (until ≡ None)
+
+-- The calls of an event, of which this one was armed: all were done but that, where it is to fail.
+pub record Reads (armed : Armed) (lines : ℕ) (made : List Made) (became : Became) (fates : List Bool) (until : Option ℕ) : Type 0 where
+  pub failed : AreArmed 0 (failing_call armed) made
+  pub are : ReadsAs armed lines made became fates until
 
 -- What became of the node, but for where.
 abbrev pub came_to : Became → Came

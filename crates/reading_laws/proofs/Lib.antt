@@ -1,5 +1,6 @@
 pub mod ReadAppends
-pub mod ReadEnds
-pub mod ReadStops
 pub mod ReadCalls
+pub mod ReadEnds
+pub mod ReadRequests
+pub mod ReadStops
 pub mod ReadTurns

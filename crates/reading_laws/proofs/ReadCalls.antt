@@ -1,7 +1,8 @@
 -- The parts of the calls of steps that were read.
-use Rattle.std.specs.Prelude.{ℕ, List, [], ◌∷◌, ◌++◌, ◌+◌, ◌≡◌, ◌≤◌, ◌⊎◌, Bool, Option, Some, None, true, false, drop, length}
-use Rattle.std.proofs.Common.{ap, arith, inl, inr, refl, subst, sym, ◌∙◌}
+use Rattle.std.specs.Prelude.{ℕ, List, [], ◌∷◌, ◌++◌, ◌+◌, ◌≡◌, ◌≤◌, ◌⊎◌, Bool, Option, Some, None, true, false, drop, length, nat_eq, not, suc, zero}
+use Rattle.std.proofs.Common.{ap, arith, inl, inr, refl, subst, sym, true≢false, ◌∙◌}
 use Rattle.std.proofs.Math.Seq.{drop-append_seam}
+use Rattle.std.proofs.lemmas.Bool.{eq-eqb, eqb-true, ne_eqb}
 use Rattle.std.proofs.lemmas.List.{append_assoc}
 use Rattle.at_base.specs.declared.record.Record.{Record}
 use Rattle.fated_walks.specs.Fated.{Fated}
@@ -9,16 +10,47 @@ use Rattle.journal_at.specs.declared.journal.Journal.{Journal}
 use Rattle.node_at.specs.Doings.{AreFates, Doing, calls_of}
 use Rattle.node_at.specs.TurnText.{TurnStep}
 use Rattle.node_events.specs.NodeEvents.{all_made}
+use Rattle.site_memory.specs.Armings.{call_number}
+use Rattle.site_memory.specs.ToldCalls.{AreArmed}
 use Rattle.site_model.specs.Told.{Made}
 use Rattle.mirrored_nets.specs.Fates.{AllDone, refusals}
+use Rattle.mirrored_nets.specs.StruckTurns.{fails_of}
+use Rattle.mirrored_nets.specs.declared.judged.Armed.{Armed}
+use Rattle.mirrored_nets.specs.declared.judged.Armed.TheVariants as arms
 use Rattle.mirrored_nets.proofs.CallRows.{all_refused_none}
 use Rattle.mirrored_nets.proofs.CallsRead.{IsRecordOf, parts, refusals_are}
 use Rattle.mirrored_nets.proofs.TurnsRead.{StepsRead}
 use Rattle.mirrored_nets.proofs.WholeTurns.{unrecorded_calls}
+use Rattle.call_readings.specs.Reads.{failing_call}
 use Rattle.reading_laws.proofs.ReadStops.{CallParts}
 
 cancel : (xs ys zs : List Made) → xs ++ ys ≡ xs ++ zs → ys ≡ zs
 cancel xs ys zs e = sym (drop-append_seam xs ys) ∙ ap (drop (length xs)) e ∙ drop-append_seam xs zs
+
+-- Which of the calls failed, counted behind those that came before.
+same_call : (since place k : ℕ) → nat_eq (suc (since + place)) (call_number since k) ≡ nat_eq (suc place) k
+same_call since place zero = refl
+same_call since place (suc k) = by (nat_eq (suc place) (suc k)) refl
+  where
+    by : (b : Bool) → nat_eq (suc place) (suc k) ≡ b → nat_eq (suc (since + place)) (since + suc k) ≡ b
+    by true e = let same = eqb-true (suc place) (suc k) e in eq-eqb (suc (since + place)) (since + suc k) (omega (arith, same))
+    by false e = ne_eqb (suc (since + place)) (since + suc k) (λ same. true≢false (sym (eq-eqb (suc place) (suc k) (omega (arith, same))) ∙ e))
+
+armed_from : (since place k : ℕ) (made : List Made) → AreArmed (since + place) (call_number since k) made → AreArmed place k made
+armed_from since place k [] armed = tt
+armed_from since place k (m ∷ made) (is, more) =
+    let next : suc (since + place) ≡ since + suc place = omega arith in
+    (is ∙ ap not (same_call since place k), armed_from since (suc place) k made (subst (λ z. AreArmed z (call_number since k) made) next more))
+
+number_of : (since : ℕ) (armed : Armed) → fails_of since armed ≡ call_number since (failing_call armed)
+number_of since arms.No = refl
+number_of since (arms.Fail k) = refl
+number_of since (arms.Stop k choice) = refl
+
+pub armed_here : (since : ℕ) (armed : Armed) (made : List Made) → AreArmed since (fails_of since armed) made → AreArmed 0 (failing_call armed) made
+armed_here since armed made row =
+    let from : since ≡ since + 0 = omega arith in
+    armed_from since 0 (failing_call armed) made (subst (λ z. AreArmed z (call_number since (failing_call armed)) made) from (subst (λ k. AreArmed since k made) (number_of since armed) row))
 
 -- A record's calls, or none, all of which were done.
 pub record AppendDone (first : List Made) : Type 0 where

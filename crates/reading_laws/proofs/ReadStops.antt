@@ -18,7 +18,7 @@ use Rattle.mirrored_nets.specs.declared.judged.Armed.{Armed}
 use Rattle.mirrored_nets.specs.declared.judged.Armed.TheVariants as arms
 use Rattle.mirrored_nets.proofs.CallRows.{AreParts, AreSendings, anew_is, disk_is, sent_is}
 use Rattle.mirrored_nets.proofs.KeptCalls.{kept_most}
-use Rattle.call_readings.specs.Reads.{IsCutAt, IsUncut, Reads, fate_behind, fate_number, is_halted, read_fates}
+use Rattle.call_readings.specs.Reads.{IsCutAt, IsOfSteps, IsUncut, ReadsAs, fate_behind, fate_number, is_halted, read_fates}
 use Rattle.call_readings.specs.declared.became.Became.{Became}
 use Rattle.call_readings.specs.declared.became.Became.TheVariants as becomes
 
@@ -213,8 +213,10 @@ pub record ReadsStop (armed : Armed) (lines : ℕ) (made : List Made) : Type 0 w
   pub became : Became
   pub fates : List Bool
   pub until : Option ℕ
-  pub reads : Reads armed lines made became fates until
+  pub are : ReadsAs armed lines made became fates until
   pub goes : is_halted became ≡ false
+  -- where no call came by which the journal is written anew, it is one of its steps
+  pub of_steps : anew_of (drop lines made) ≡ [] → IsOfSteps became
 
 module _ (lines : ℕ) (made : List Made) (P : CallParts lines made) (which : (P.first ≡ []) ⊎ (length P.first ≡ 4)) (all : AllDone made) (armed : Armed) (k : ℕ) (choice : Choice) (is : armed ≡ arms.Stop k choice) where
   anew_done : AllDone (anew_of (drop lines made))
@@ -227,8 +229,9 @@ module _ (lines : ℕ) (made : List Made) (P : CallParts lines made) (which : (P
     became = becomes.Stays;
     fates = read_fates lines made;
     until = None;
-    reads = (subst (λ a. IsUncut a made) (sym is) far, inl anew_done, refl, refl);
+    are = (subst (λ a. IsUncut a made) (sym is) far, inl anew_done, refl, refl);
     goes = refl;
+    of_steps = λ none. tt;
   }
 
   module _ (least : 1 ≤ k) (within : k ≤ length made) where
@@ -242,8 +245,9 @@ module _ (lines : ℕ) (made : List Made) (P : CallParts lines made) (which : (P
           became = becomes.Falls (kept_at made k choice) choice;
           fates = so.fates;
           until = Some (fate_number lines made k);
-          reads = (all, record { k = k; cut = cut; most = most; until_is = refl }, so.falls);
+          are = (all, record { k = k; cut = cut; most = most; until_is = refl }, so.falls);
           goes = refl;
+          of_steps = λ none. tt;
         }
 
     cut_anew : before_anew lines made < k → ReadsStop armed lines made
@@ -251,8 +255,9 @@ module _ (lines : ℕ) (made : List Made) (P : CallParts lines made) (which : (P
       became = becomes.FallsAnew (kept_at made k choice) choice;
       fates = [];
       until = None;
-      reads = (all, record { k = k; cut = cut; behind = more }, refl, refl);
+      are = (all, record { k = k; cut = cut; behind = more }, refl, refl);
       goes = refl;
+      of_steps = λ none. absurd (let e = ap length none in omega (arith, e, more, within));
     }
 
     comes : ReadsStop armed lines made

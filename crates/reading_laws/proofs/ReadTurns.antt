@@ -59,12 +59,12 @@ use Rattle.mirrored_nets.proofs.TriedLines.{line_long, line_sendings, none_behin
 use Rattle.mirrored_nets.proofs.TurnsRead.{StepsRead}
 use Rattle.mirrored_nets.proofs.TurnsTaken.{HeardTurn, TurnLaws, from as from_of, from_is, heard_turn}
 use Rattle.mirrored_nets.proofs.WholeTurns.{beside_so}
-use Rattle.call_readings.specs.Reads.{FailsLast, IsUncut, Reads, ReadsTurn, came_to, is_halted, read_fates}
+use Rattle.call_readings.specs.Reads.{FailsLast, IsUncut, Reads, ReadsTurn, came_to, failing_call, is_halted, read_fates}
 use Rattle.call_readings.specs.declared.became.Became.{Became}
 use Rattle.call_readings.specs.declared.became.Became.TheVariants as becomes
 use Rattle.reading_laws.specs.TurnsAreRead.{IsTurnHere, TurnsAreRead}
 use Rattle.reading_laws.proofs.ReadAppends.{halting_none_behind}
-use Rattle.reading_laws.proofs.ReadCalls.{AppendDone, anew_same, append_is, call_parts, none_refused as none_refused_in, refusals_so}
+use Rattle.reading_laws.proofs.ReadCalls.{AppendDone, anew_same, append_is, armed_here, call_parts, none_refused as none_refused_in, refusals_so}
 use Rattle.reading_laws.proofs.ReadEnds.{EndsAnew, steps_end}
 use Rattle.reading_laws.proofs.ReadStops.{CallParts, ReadsStop, anew_here, stop_read}
 
@@ -135,6 +135,9 @@ module _ (calls : CallsFailAsTold) (hold : LinksHold) (L : NetLaws) (K : TurnLaw
 
   row : AreArmed since fails made
   row = armed_row calls hold old new made fails S.told (turn_kept bytes r n m old new turns up_here.runs) adds
+
+  failed_so : AreArmed 0 (failing_call armed) made
+  failed_so = armed_here since armed made row
 
   gate_here : from.tally.gate ≡ old.tally.gate
   gate_here = ap (λ (z : MemSite). z.tally.gate) others
@@ -266,17 +269,17 @@ module _ (calls : CallsFailAsTold) (hold : LinksHold) (L : NetLaws) (K : TurnLaw
         by (inr (halted, rose)) = absurd (no_gate all rose)
 
     stays : IsUncut armed made → IsWhole r → ReadsTurn armed lines made r
-    stays uncut is = record { became = becomes.Stays; fates = read_fates lines made; until = None; reads = (uncut, anew_ends, refl, refl); ends = is }
+    stays uncut is = record { became = becomes.Stays; fates = read_fates lines made; until = None; reads = record { failed = failed_so; are = (uncut, anew_ends, refl, refl) }; ends = is }
 
     stops : AllDone made → (k : ℕ) (choice : Choice) → armed ≡ arms.Stop k choice → IsWhole r → ReadsTurn armed lines made r
     stops all k choice is ended =
         let none = none_refused_in n.journal lines H.did.line made H.did.whole.steps H.did.whole.doings H.is_turn.fated R long all in
         let stood = append_is n.journal lines H.did.line made H.did.whole.steps H.did.whole.doings H.is_turn.fated R long none in
         let s = stop_read lines made P stood.which all armed k choice is in
-        record { became = s.became; fates = s.fates; until = s.until; reads = s.reads; ends = ends_up s.became r s.goes ended }
+        record { became = s.became; fates = s.fates; until = s.until; reads = record { failed = failed_so; are = s.are }; ends = ends_up s.became r s.goes ended }
 
     halts_anew : (k : ℕ) → armed ≡ arms.Fail k → r ≡ turneds.Halted → Rose turn.behind.tally.gate new.tally.gate → ReadsTurn armed lines made r
-    halts_anew k is halted rose = record { became = becomes.HaltsAnew; fates = read_fates lines made; until = None; reads = ((k, is), fails_last rose, refl, refl); ends = halted }
+    halts_anew k is halted rose = record { became = becomes.HaltsAnew; fates = read_fates lines made; until = None; reads = record { failed = failed_so; are = ((k, is), fails_last rose, refl, refl) }; ends = halted }
 
     fails_whole : (k : ℕ) → armed ≡ arms.Fail k → ReadsTurn armed lines made r
     fails_whole k is = by result
@@ -360,11 +363,11 @@ module _ (calls : CallsFailAsTold) (hold : LinksHold) (L : NetLaws) (K : TurnLaw
             became = becomes.Halts;
             fates = g.stands ∷ [];
             until = Some 1;
-            reads = (
+            reads = record { failed = failed_so; are = (
               (call, is),
               record { stands = g.stands; fates_are = refl; until_is = refl; file = n.journal.live; calls = g.calls },
               halting_none_behind lines W.line W.halts.first made n.journal.live n.journal.end (bytes_of W.halts.entry) line_of_lines made_is makes,
-            );
+            ) };
             ends = rested.answers;
           }
 

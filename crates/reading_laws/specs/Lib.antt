@@ -1,1 +1,2 @@
 pub mod TurnsAreRead
+pub mod RequestsAreRead
