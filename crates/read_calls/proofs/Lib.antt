@@ -1,0 +1,3 @@
+pub mod NamedFates
+pub mod OneReading
+pub mod PartsOfCalls
