@@ -22,15 +22,6 @@ use Rattle.call_readings.specs.declared.became.Became.TheVariants as becomes
 same_stop : (k j : ℕ) (choice left : Choice) → arms.Stop k choice ≡ arms.Stop j left → (k ≡ j) × (choice ≡ left)
 same_stop k j choice left e = let a : k ≡ j = cc in let b : choice ≡ left = cc in (a, b)
 
-no_stop : (k j : ℕ) (left : Choice) → arms.Fail k ≡ arms.Stop j left → ⊥
-no_stop k j left e = cc
-
-none_stops : (j : ℕ) (left : Choice) → arms.No ≡ arms.Stop j left → ⊥
-none_stops j left e = cc
-
-none_fails : (j : ℕ) → arms.No ≡ arms.Fail j → ⊥
-none_fails j e = cc
-
 stop_fails : (k j : ℕ) (choice : Choice) → arms.Stop k choice ≡ arms.Fail j → ⊥
 stop_fails k j choice e = cc
 
@@ -149,7 +140,7 @@ module _ (lines : ℕ) (made : List Made) (k : ℕ) (choice : Choice) where
 some_last : (anew : List Made) → FailsLast anew → anew ≡ [] → ⊥
 some_last anew F e = let a = ap length (sym F.all ∙ e) in let b = length-append F.front (F.last ∷ []) in omega (arith, a, b)
 
--- What calls are read as of which one was armed to fail, or none.
+-- What calls are read as none of which was stopped at.
 pub record FailsOne (lines : ℕ) (made : List Made) (halted : Bool) (became : Became) (fates : List Bool) (until : Option ℕ) : Type 0 where
   pub at_gate : halted ≡ true → anew_of (drop lines made) ≡ [] → (becomes.Halts ≡ became) × (struck 0 (nat_eq (length made - lines) 4) ≡ fates) × (Some 1 ≡ until)
   pub anew : halted ≡ true → (anew_of (drop lines made) ≡ [] → ⊥) → (becomes.HaltsAnew ≡ became) × (read_fates lines made ≡ fates) × (None ≡ until)
@@ -164,35 +155,34 @@ module _ (lines : ℕ) (made : List Made) where
       by (inl (place, bytes, is, no)) = let l = one_left (lines + 2) made (failed (Call.Write H.file place bytes)) is in ne_eqb (length made - lines) 4 (λ e. omega (arith, l, e)) ∙ sym no
       by (inr (is, yes)) = let l = one_left (lines + 3) made (failed (Call.Sync H.file)) is in eq-eqb (length made - lines) 4 (omega (arith, l)) ∙ sym yes
 
-  module _ (armed : Armed) (cannot : (j : ℕ) (left : Choice) → armed ≡ arms.Stop j left → ⊥) (halted : Bool) where
+  module _ (armed : Armed) (uncut : IsUncut armed made) (halted : Bool) where
+    cannot : (j kept : ℕ) (left : Choice) → IsCutAt armed made j kept left → ⊥
+    cannot j kept left cut = by (subst (λ a. IsUncut a made) cut.armed_is uncut)
+      where
+        by : (j ≡ 0) ⊎ (length made < j) → ⊥
+        by (inl none) = let least = cut.least in omega (arith, none, least)
+        by (inr past) = let within = cut.within in omega (arith, past, within)
+
     pub fails_one : (became : Became) (fates : List Bool) (until : Option ℕ) → ReadsAs armed lines made became fates until → is_halted became ≡ halted → FailsOne lines made halted became fates until
-    fails_one becomes.Stays fates until (uncut, ends, f, u) is = record {
+    fails_one becomes.Stays fates until (far, ends, f, u) is = record {
       at_gate = λ yes. absurd (true≢false (sym yes ∙ sym is));
       anew = λ yes. absurd (true≢false (sym yes ∙ sym is));
       stays = λ no. (refl, sym f, sym u);
     }
-    fails_one (becomes.Falls kept choice) fates until (all, cut, at) is = absurd (cannot cut.k choice cut.cut.armed_is)
+    fails_one (becomes.Falls kept choice) fates until (all, cut, at) is = absurd (cannot cut.k kept choice cut.cut)
     fails_one becomes.Halts fates until (failing, H, none) is = record {
       at_gate = λ yes empty. (refl, ap (struck 0) (stands_so fates until H) ∙ sym H.fates_are, sym H.until_is);
       anew = λ yes some. absurd (some none);
       stays = λ no. absurd (true≢false (is ∙ no));
     }
-    fails_one (becomes.FallsAnew kept choice) fates until (all, cut, f, u) is = absurd (cannot cut.k choice cut.cut.armed_is)
+    fails_one (becomes.FallsAnew kept choice) fates until (all, cut, f, u) is = absurd (cannot cut.k kept choice cut.cut)
     fails_one becomes.HaltsAnew fates until (failing, last, f, u) is = record {
       at_gate = λ yes empty. absurd (some_last (anew_of (drop lines made)) last empty);
       anew = λ yes some. (refl, sym f, sym u);
       stays = λ no. absurd (true≢false (is ∙ no));
     }
 
-  -- where nothing was armed, it didn't halt
-  pub unarmed_goes : (became : Became) (fates : List Bool) (until : Option ℕ) → ReadsAs arms.No lines made became fates until → is_halted became ≡ false
-  unarmed_goes becomes.Stays fates until h = refl
-  unarmed_goes (becomes.Falls kept choice) fates until h = refl
-  unarmed_goes becomes.Halts fates until ((j, is), H, none) = absurd (none_fails j is)
-  unarmed_goes (becomes.FallsAnew kept choice) fates until h = refl
-  unarmed_goes becomes.HaltsAnew fates until ((j, is), last, f, u) = absurd (none_fails j is)
-
-  -- nor where the machine was to stop
+  -- where the machine was to stop, it didn't halt
   pub stopped_goes : (k : ℕ) (choice : Choice) (became : Became) (fates : List Bool) (until : Option ℕ) → ReadsAs (arms.Stop k choice) lines made became fates until → is_halted became ≡ false
   stopped_goes k choice becomes.Stays fates until h = refl
   stopped_goes k choice (becomes.Falls kept left) fates until h = refl

@@ -1,14 +1,17 @@
 //! What the calls of one event come to.
 
-ghost use Rattle.std.specs.Prelude.{ℕ, List, ◌+◌, ◌≡◌, ◌≤◌, ◌<◌, ◌⊎◌, Bool, Option, Some, drop, false, length};
+ghost use Rattle.std.specs.Prelude.{ℕ, List, ◌+◌, ◌≡◌, ◌≤◌, ◌-◌, ◌<◌, ◌⊎◌, Bool, Option, Some, false, length, nat_eq};
 ghost use Rattle.site_memory.specs.Entries.{call_of, mades};
 ghost use Rattle.site_memory.specs.ToldCalls.{AreArmed};
 ghost use Rattle.torn_appends.specs.TornAppends.{stands_behind};
 ghost use Rattle.mirrored_nets.specs.Kept.{is_write, kept_at, writes_at};
 ghost use Rattle.mirrored_nets.specs.Took.{IsKept, StopsBefore, StopsInStep};
 ghost use Rattle.mirrored_nets.specs.TookAnew.{before_anew};
-ghost use Rattle.call_readings.specs.Reads.{Reads, ReadsAs, fate_number, is_halted, read_fates};
+ghost use Rattle.call_readings.specs.Reads.{IsUncut, Reads, ReadsAs, failing_call, fate_number, is_halted, read_fates};
 ghost use Rattle.call_readings.specs.declared.became.Became.{Became as Known};
+ghost use Rattle.call_readings.specs.declared.became.Became.TheVariants as becomes;
+ghost use Rattle.mirrored_nets.specs.declared.judged.Armed.{Armed as Arms};
+ghost use Rattle.node_events.specs.NodeEvents.{struck};
 ghost use Rattle.read_calls.specs.IsRead.{IsRead, fates_of};
 
 use call_readings::became::Became;
@@ -158,11 +161,65 @@ fn stopped(lines: usize, calls: &[Entry], k: usize, choice: Choice) -> Reading
     }
 }
 
-/// The place of the fate of the k-th of these calls: those of the disk that come first have one.
-fn place_of(step: &[Entry], k: usize) -> usize
-    requires { 1 ≤ k }
-    ensures none { Rattle.mirrored_nets.specs.Fates.disk_part (mades step.now) ≡ Rattle.std.specs.Prelude.[] → result + 1 ≡ k }
+/// The fates of an event of which the k-th call is to fail: of its calls of the disk that come first, which are a record's, one fate is named.
+fn failed_fates(lines: usize, calls: &[Entry], k: usize) -> Named
+    ensures { AreArmed 0 k (mades calls.now) → fates_of result ≡ read_fates lines (mades calls.now) }
 {
-    let disk = disk_calls(step);
-    if disk == 0 { k - 1 } else { k.saturating_sub(disk) }
+    if k <= lines || before_anew(lines, calls) < k {
+        return Named::None;
+    }
+    let disk = disk_calls(behind(calls, lines));
+    let before = if disk == 0 { k - lines - 1 } else { (k - lines).saturating_sub(disk) };
+    Named::Struck {
+        before,
+        last: false,
+    }
+}
+
+/// An event whose node halted as a record was appended: at the last of its four calls it stands.
+fn at_gate(lines: usize, calls: &[Entry]) -> Reading
+    ensures became { result.became ≡ becomes.Halts }
+    ensures fates { fates_of result.fates ≡ struck 0 (nat_eq (length (mades calls.now) - lines) 4) }
+    ensures until { result.until ≡ Some 1 }
+{
+    let last = calls.len().saturating_sub(lines) == 4;
+    Reading {
+        became: Became::Halts,
+        fates: Named::Struck { before: 0, last },
+        until: Some(1),
+    }
+}
+
+/// An event at none of whose calls the machine stops; the k-th is to fail, or none where that is 0.
+fn unstopped(lines: usize, calls: &[Entry], k: usize, halted: bool) -> Reading
+    ensures { (armed : Arms) (became : Known) (fates : List Bool) (until : Option ℕ) → failing_call armed ≡ k → IsUncut armed (mades calls.now) → Reads armed lines (mades calls.now) became fates until → is_halted became ≡ halted
+        → IsRead result became fates until }
+{
+    if halted && anew(behind(calls, lines)).is_empty() {
+        return at_gate(lines, calls);
+    }
+    let became = if halted { Became::HaltsAnew } else { Became::Stays };
+    Reading {
+        became,
+        fates: failed_fates(lines, calls, k),
+        until: None,
+    }
+}
+
+/// What the calls of an event come to, of which this one was armed, and the first so many have no fate; whether its node halted. Calls that can
+/// be made are read in one way, which is this.
+pub fn read(lines: usize, calls: &[Entry], armed: Armed, halted: bool) -> Reading
+    ensures { (became : Known) (fates : List Bool) (until : Option ℕ) → Reads armed lines (mades calls.now) became fates until → is_halted became ≡ halted → IsRead result became fates until }
+{
+    match armed {
+        Armed::No => unstopped(lines, calls, 0, halted),
+        Armed::Fail(k) => unstopped(lines, calls, k as usize, halted),
+        Armed::Stop(k, choice) => {
+            let k = k as usize;
+            if k == 0 || calls.len() < k {
+                return unstopped(lines, calls, 0, false);
+            }
+            stopped(lines, calls, k, choice)
+        }
+    }
 }
