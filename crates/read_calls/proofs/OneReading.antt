@@ -123,9 +123,12 @@ module _ (lines : ℕ) (made : List Made) (k : ℕ) (choice : Choice) where
         let (a, b, c) = cut_same cut.k left_kept left cut.cut in
         let u : Some number ≡ until = ap (λ j. Some (fate_number lines made j)) a ∙ sym cut.until_is in
         record {
-          steps = λ most. ((λ i. becomes.Falls (c i) (b i)), u,
-              subst (λ z. StopsInStep lines made choice fates z kept ⊎ StopsBefore lines fates z kept) (sym u)
-              (subst (λ n. StopsInStep lines made choice fates until n ⊎ StopsBefore lines fates until n) (sym c) (subst (λ z. StopsInStep lines made z fates until left_kept ⊎ StopsBefore lines fates until left_kept) (sym b) at)));
+          steps = λ most. (
+            (λ i. becomes.Falls (c i) (b i)),
+            u,
+            subst (λ z. StopsInStep lines made choice fates z kept ⊎ StopsBefore lines fates z kept) (sym u)
+                (subst (λ n. StopsInStep lines made choice fates until n ⊎ StopsBefore lines fates until n) (sym c) (subst (λ z. StopsInStep lines made z fates until left_kept ⊎ StopsBefore lines fates until left_kept) (sym b) at)),
+          );
           anew = λ past. let most = cut.most in absurd (omega (arith, past, most, a));
         }
     stops_one becomes.Halts fates until h goes = absurd (true≢false goes)
@@ -152,8 +155,8 @@ module _ (lines : ℕ) (made : List Made) where
     where
       by : ((place : ℕ) × (bytes : List ℕ) × (drop (lines + 2) made ≡ failed (Call.Write H.file place bytes) ∷ []) × (H.stands ≡ false)) ⊎ ((drop (lines + 3) made ≡ failed (Call.Sync H.file) ∷ []) × (H.stands ≡ true))
           → nat_eq (length made - lines) 4 ≡ H.stands
-      by (inl (place, bytes, is, no)) = let l = one_left (lines + 2) made (failed (Call.Write H.file place bytes)) is in ne_eqb (length made - lines) 4 (λ e. omega (arith, l, e)) ∙ sym no
-      by (inr (is, yes)) = let l = one_left (lines + 3) made (failed (Call.Sync H.file)) is in eq-eqb (length made - lines) 4 (omega (arith, l)) ∙ sym yes
+      by (inl (place, bytes, is, absent)) = let l = one_left (lines + 2) made (failed (Call.Write H.file place bytes)) is in ne_eqb (length made - lines) 4 (λ e. omega (arith, l, e)) ∙ sym absent
+      by (inr (is, stands)) = let l = one_left (lines + 3) made (failed (Call.Sync H.file)) is in eq-eqb (length made - lines) 4 (omega (arith, l)) ∙ sym stands
 
   module _ (armed : Armed) (uncut : IsUncut armed made) (halted : Bool) where
     cannot : (j kept : ℕ) (left : Choice) → IsCutAt armed made j kept left → ⊥
@@ -165,21 +168,21 @@ module _ (lines : ℕ) (made : List Made) where
 
     pub fails_one : (became : Became) (fates : List Bool) (until : Option ℕ) → ReadsAs armed lines made became fates until → is_halted became ≡ halted → FailsOne lines made halted became fates until
     fails_one becomes.Stays fates until (far, ends, f, u) is = record {
-      at_gate = λ yes. absurd (true≢false (sym yes ∙ sym is));
-      anew = λ yes. absurd (true≢false (sym yes ∙ sym is));
-      stays = λ no. (refl, sym f, sym u);
+      at_gate = λ off. absurd (true≢false (sym off ∙ sym is));
+      anew = λ off. absurd (true≢false (sym off ∙ sym is));
+      stays = λ on. (refl, sym f, sym u);
     }
     fails_one (becomes.Falls kept choice) fates until (all, cut, at) is = absurd (cannot cut.k kept choice cut.cut)
     fails_one becomes.Halts fates until (failing, H, none) is = record {
-      at_gate = λ yes empty. (refl, ap (struck 0) (stands_so fates until H) ∙ sym H.fates_are, sym H.until_is);
-      anew = λ yes some. absurd (some none);
-      stays = λ no. absurd (true≢false (is ∙ no));
+      at_gate = λ off empty. (refl, ap (struck 0) (stands_so fates until H) ∙ sym H.fates_are, sym H.until_is);
+      anew = λ off some. absurd (some none);
+      stays = λ on. absurd (true≢false (is ∙ on));
     }
     fails_one (becomes.FallsAnew kept choice) fates until (all, cut, f, u) is = absurd (cannot cut.k kept choice cut.cut)
     fails_one becomes.HaltsAnew fates until (failing, last, f, u) is = record {
-      at_gate = λ yes empty. absurd (some_last (anew_of (drop lines made)) last empty);
-      anew = λ yes some. (refl, sym f, sym u);
-      stays = λ no. absurd (true≢false (is ∙ no));
+      at_gate = λ off empty. absurd (some_last (anew_of (drop lines made)) last empty);
+      anew = λ off some. (refl, sym f, sym u);
+      stays = λ on. absurd (true≢false (is ∙ on));
     }
 
   -- where the machine was to stop, it didn't halt

@@ -39,15 +39,15 @@ parts_are ms = disk_parts ms ∙ ap (λ z. disk_part ms ++ z) (sent_parts (behin
 -- of calls that reach the one that is to fail not all were done
 pub fails_within : (before fails : ℕ) (ms : List Made) → AreArmed before fails ms → before < fails → fails ≤ before + length ms → all_done ms ≡ false
 fails_within before fails [] h less most = absurd (omega (arith, less, most))
-fails_within before fails (m ∷ ms) (is, more) less most = by (nat_eq (suc before) fails) refl
+fails_within before fails (m ∷ ms) (is, more) less most = by (λ past. fails_within (suc before) fails ms more past (omega (arith, most))) (nat_eq (suc before) fails) refl
   where
-    later : (suc before ≡ fails → ⊥) → (suc before < fails) ⊎ (fails ≤ suc before) → all_done ms ≡ false
-    later apart (inl past) = fails_within (suc before) fails ms more past (omega (arith, most))
-    later apart (inr here) = absurd (apart (omega (arith, here, less)))
+    later : (suc before < fails → all_done ms ≡ false) → (suc before ≡ fails → ⊥) → (suc before < fails) ⊎ (fails ≤ suc before) → all_done ms ≡ false
+    later next apart (inl past) = next past
+    later next apart (inr here) = absurd (apart (omega (arith, here, less)))
 
-    by : (b : Bool) → nat_eq (suc before) fails ≡ b → (if m.done then all_done ms else false) ≡ false
-    by true e = ap (λ t. if t then all_done ms else false) (is ∙ ap not e)
-    by false e = ap (λ t. if t then all_done ms else false) (is ∙ ap not e) ∙ later (eqb-false (suc before) fails e) (cases_lt (suc before) fails)
+    by : (suc before < fails → all_done ms ≡ false) → (b : Bool) → nat_eq (suc before) fails ≡ b → (if m.done then all_done ms else false) ≡ false
+    by next true e = ap (λ t. if t then all_done ms else false) (is ∙ ap not e)
+    by next false e = ap (λ t. if t then all_done ms else false) (is ∙ ap not e) ∙ later next (eqb-false (suc before) fails e) (cases_lt (suc before) fails)
 
 -- The parts of the calls behind so many.
 module _ (lines k : ℕ) (made : List Made) (armed : AreArmed 0 k made) where

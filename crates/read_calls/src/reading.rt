@@ -94,9 +94,7 @@ fn stands_behind(calls: usize, choice: Choice) -> bool
 fn before_anew(lines: usize, calls: &[Entry]) -> usize
     ensures { result ≡ before_anew lines (mades calls.now) }
 {
-    calls
-        .len()
-        .saturating_sub(anew(behind(calls, lines)).len())
+    calls.len().saturating_sub(anew(behind(calls, lines)).len())
 }
 
 /// The number of the fate of the k-th call, from 1; 0 for one that comes before the first step.
@@ -169,7 +167,11 @@ fn failed_fates(lines: usize, calls: &[Entry], k: usize) -> Named
         return Named::None;
     }
     let disk = disk_calls(behind(calls, lines));
-    let before = if disk == 0 { k - lines - 1 } else { (k - lines).saturating_sub(disk) };
+    let before = if disk == 0 {
+        k - lines - 1
+    } else {
+        (k - lines).saturating_sub(disk)
+    };
     Named::Struck {
         before,
         last: false,
@@ -198,7 +200,11 @@ fn unstopped(lines: usize, calls: &[Entry], k: usize, halted: bool) -> Reading
     if halted && anew(behind(calls, lines)).is_empty() {
         return at_gate(lines, calls);
     }
-    let became = if halted { Became::HaltsAnew } else { Became::Stays };
+    let became = if halted {
+        Became::HaltsAnew
+    } else {
+        Became::Stays
+    };
     Reading {
         became,
         fates: failed_fates(lines, calls, k),

@@ -29,7 +29,7 @@ cancel xs ys zs e = sym (drop-append_seam xs ys) ∙ ap (drop (length xs)) e ∙
 
 -- Which of the calls failed, counted behind those that came before.
 same_call : (since place k : ℕ) → nat_eq (suc (since + place)) (call_number since k) ≡ nat_eq (suc place) k
-same_call since place zero = refl
+same_call since place zero = ne_eqb (suc (since + place)) 0 (λ e. omega (arith, e)) ∙ sym (ne_eqb (suc place) 0 (λ e. omega (arith, e)))
 same_call since place (suc k) = by (nat_eq (suc place) (suc k)) refl
   where
     by : (b : Bool) → nat_eq (suc place) (suc k) ≡ b → nat_eq (suc (since + place)) (since + suc k) ≡ b

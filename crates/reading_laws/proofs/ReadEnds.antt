@@ -16,7 +16,7 @@ abbrev pub EndsAnew : List Made → Type 0
 EndsAnew made = AllDone made ⊎ FailsLast made
 
 -- a row that breaks off
-breaks_end : (cs : List Call) (made : List Made) → BreaksOff cs made → EndsAnew made
+pub breaks_end : (cs : List Call) (made : List Made) → BreaksOff cs made → EndsAnew made
 breaks_end cs made b = by b.is
   where
     by : (made ≡ map done b.front ++ failed b.call ∷ []) ⊎ (made ≡ map done b.front) → EndsAnew made

@@ -215,11 +215,14 @@ module _ (calls : CallsFailAsTold) (hold : LinksHold) (L : NetLaws) (K : TurnLaw
             became = becomes.Halts;
             fates = g.stands ∷ [];
             until = Some 1;
-            reads = record { failed = failed_so; are = (
-              (k, is),
-              record { stands = g.stands; fates_are = refl; until_is = refl; file = n.journal.live; calls = g.calls },
-              halting_none_behind 0 [] H.stopped.first made n.journal.live n.journal.end (bytes_of H.entry) refl made_is H.stopped.makes,
-            ) };
+            reads = record {
+              failed = failed_so;
+              are = (
+                (k, is),
+                record { stands = g.stands; fates_are = refl; until_is = refl; file = n.journal.live; calls = g.calls },
+                halting_none_behind 0 [] H.stopped.first made n.journal.live n.journal.end (bytes_of H.entry) refl made_is H.stopped.makes,
+              );
+            };
             ends = refl;
             of_steps = tt;
           }

@@ -363,11 +363,14 @@ module _ (calls : CallsFailAsTold) (hold : LinksHold) (L : NetLaws) (K : TurnLaw
             became = becomes.Halts;
             fates = g.stands ∷ [];
             until = Some 1;
-            reads = record { failed = failed_so; are = (
-              (call, is),
-              record { stands = g.stands; fates_are = refl; until_is = refl; file = n.journal.live; calls = g.calls },
-              halting_none_behind lines W.line W.halts.first made n.journal.live n.journal.end (bytes_of W.halts.entry) line_of_lines made_is makes,
-            ) };
+            reads = record {
+              failed = failed_so;
+              are = (
+                (call, is),
+                record { stands = g.stands; fates_are = refl; until_is = refl; file = n.journal.live; calls = g.calls },
+                halting_none_behind lines W.line W.halts.first made n.journal.live n.journal.end (bytes_of W.halts.entry) line_of_lines made_is makes,
+              );
+            };
             ends = rested.answers;
           }
 

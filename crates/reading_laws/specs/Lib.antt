@@ -1,2 +1,3 @@
 pub mod TurnsAreRead
 pub mod RequestsAreRead
+pub mod StartsAreRead

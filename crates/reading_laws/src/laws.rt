@@ -1,5 +1,7 @@
 //! Laws of what the calls of one event say of it.
 
+ghost use Rattle.reading_laws.specs.RequestsAreRead.{RequestsAreRead};
+ghost use Rattle.reading_laws.specs.StartsAreRead.{StartsAreRead};
 ghost use Rattle.reading_laws.specs.TurnsAreRead.{TurnsAreRead};
 
 use addressed_posts::laws::posts_are_addressed;
@@ -10,12 +12,14 @@ use deliverables::laws::{examples_are_node_bases, nodes_own_is_deliverable, step
 use deliveries::laws::{calls_post, serve_as_nets};
 use endpoints::target::paths_name_targets;
 use http_post::laws::bytes_wait_or_not;
-use memory_net::laws::{are_no_messages, hosts_tell_receivers, stays_closed};
+use memory_net::laws::{are_no_messages, examples_ask_so, hosts_tell_receivers, stays_closed};
+use mirrored_nets::laws::{failed_starts_leave, starts_fail_for_want, starts_leave};
 use model_laws::rules::steps_keep_place;
 use node_at::laws::steps_reply;
-use node_events::laws::turns_are_events;
+use node_events::laws::{requests_are_events, turns_are_events};
 use node_worlds::laws::restarts_on_records;
 use node_worlds::lives::crashes_are_met;
+use record_bytes::read::are_apart;
 use record_bytes::write::are_bodies;
 use site_memory::laws::{calls_fail_as_told, chosen_are_images, links_hold};
 use site_memory::machine::MemSite;
@@ -52,4 +56,52 @@ pub fn turns_are_read()
     nodes_own_is_deliverable();
     calls_fail_as_told();
     links_hold();
+}
+
+/// So are those of a request.
+pub fn requests_are_read()
+    ensures { RequestsAreRead }
+{
+    posts_are_addressed();
+    bytes_mean_one_thing();
+    posts_say();
+    posts_dont_wait();
+    ticks_ask();
+    examples_are_node_bases();
+    calls_post::<MemSite>();
+    serve_as_nets::<MemSite>();
+    are_no_messages();
+    examples_ask_so();
+    hosts_tell_receivers();
+    stays_closed::<MemSite>();
+    requests_are_events();
+    turns_are_events();
+    crashes_are_met::<MemSite>();
+    chosen_are_images();
+    bare_are_in_limits();
+    bytes_wait_or_not();
+    restarts_on_records::<MemSite>();
+    are_bodies();
+    grows_by_one();
+    shrinks_the_same();
+    steps_keep_place();
+    steps_pass_on();
+    steps_reply();
+    paths_name_targets();
+    nodes_own_is_deliverable();
+    calls_fail_as_told();
+    links_hold();
+}
+
+/// And those of a start of a node that has started before.
+pub fn starts_are_read()
+    ensures { StartsAreRead }
+{
+    are_apart();
+    chosen_are_images();
+    calls_fail_as_told();
+    links_hold();
+    starts_leave();
+    failed_starts_leave();
+    starts_fail_for_want();
 }
