@@ -1,0 +1,2 @@
+pub mod CutTells
+pub mod StruckTells
