@@ -140,8 +140,8 @@ fn stop_fates(lines: usize, calls: &[Entry], k: usize, choice: Choice) -> Named
 
 /// An event that stops at the k-th call.
 fn stopped(lines: usize, calls: &[Entry], k: usize, choice: Choice) -> Reading
-    requires { 1 ≤ k }
-    requires { k ≤ length calls.now }
+    requires least { 1 ≤ k }
+    requires within { k ≤ length calls.now }
     ensures { (became : Known) (fates : List Bool) (until : Option ℕ) → ReadsAs (Armed.Stop k choice) lines (mades calls.now) became fates until → is_halted became ≡ false → IsRead result became fates until }
 {
     let kept = kept_at(calls, k, choice);

@@ -1,2 +1,3 @@
+pub mod AskTells
 pub mod CutTells
 pub mod StruckTells

@@ -1,14 +1,17 @@
 -- What a turn did in which its node went down, as its event says it.
 use Rattle.std.specs.Prelude.{ℕ, List, [], ◌∷◌, ◌++◌, ◌+◌, ◌<◌, ◌⊎◌, ◌≡◌, Bool, true, Option, Some, length, map}
+use Rattle.at_base.specs.declared.event.Event.TheVariants as events
+use Rattle.at_base.specs.declared.event.Local.{Local}
 use Rattle.at_base.specs.declared.record.Record.{Record}
-use Rattle.at_model.specs.World.{Hosts, Input, Node, World, WorldEvent, Turn}
-use Rattle.fated_walks.specs.Fated.{AllLeft, AreCut, Fated, all_fates, taken_of}
+use Rattle.at_model.specs.Step.{plan}
+use Rattle.at_model.specs.World.{Ask, Hosts, Input, Node, World, WorldEvent, Turn}
+use Rattle.fated_walks.specs.Fated.{AllLeft, AreCut, Fated, IsPlanned, all_fates, fates_of, taken_of}
 use Rattle.node_at.specs.Doings.{Doing, book_behind, came_of}
 use Rattle.node_at.specs.Meanings.{Meaning}
 use Rattle.node_at.specs.State.{State}
-use Rattle.node_at.specs.TurnText.{IsFirst, Steppings, TurnStep}
+use Rattle.node_at.specs.TurnText.{IsFirst, IsStep, Steppings, TurnStep}
 use Rattle.node_events.specs.CallEffects.{effects_of}
-use Rattle.node_events.specs.Fares.{AreFared}
+use Rattle.node_events.specs.Fares.{AreFared, IsFared}
 use Rattle.node_events.specs.NodeEvents.{AreStepsOf, IsAt, IsInput, IsStruck, front_by, struck}
 use Rattle.node_worlds.specs.Nets.{Net, Place}
 use Rattle.world_laws.specs.Moves.{losses_of, lost_of, numbered, steps_of}
@@ -53,3 +56,13 @@ abbrev pub UnbegunTell : Type 0
 UnbegunTell =
     (hosts : Hosts) (net : Net) (w : World) (i : ℕ) (p : Place) (x : Node) (n : State) (input : Input) (meaning : Meaning) (now : ℕ) → IsAt hosts net w i p x n → IsInput w i x input meaning now
     → Tells w (Turn i input [] (Some 0)) n [] []
+
+-- The same of a request, at the clock of its node.
+pub record RequestsTell : Type 0 where
+  pub stopped : (hosts : Hosts) (net : Net) (w : World) (i : ℕ) (p : Place) (x : Node) (n : State) (l : Local) (step : TurnStep) (doing : Doing) (fated : Fated)
+      → IsAt hosts net w i p x n → IsStep n.book (events.Local l) x.clock step → IsPlanned (plan n.book (events.Local l) x.clock) fated → IsFared step doing fated → AllLeft (fated ∷ [])
+      → (before : ℕ) (last : Bool) → before < length (fates_of fated)
+      → TellsStruck hosts net w i p n (Ask i l (struck before last) (Some (before + 1))) x.clock before last (step ∷ []) (doing ∷ [])
+  pub halted : (hosts : Hosts) (net : Net) (w : World) (i : ℕ) (p : Place) (x : Node) (n : State) (l : Local) (step : TurnStep) (entry : Record) (stands : Bool)
+      → IsAt hosts net w i p x n → IsStep n.book (events.Local l) x.clock step → step.entry ≡ Some entry → step.landed ≡ true
+      → Tells w (Ask i l (stands ∷ []) (Some 1)) n (front_by stands step) (stands ∷ [])

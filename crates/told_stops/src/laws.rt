@@ -1,6 +1,6 @@
 //! Laws of what a turn did in which its node went down.
 
-ghost use Rattle.told_stops.specs.ToldStops.{HaltsTell, StopsTell, UnbegunTell};
+ghost use Rattle.told_stops.specs.ToldStops.{HaltsTell, RequestsTell, StopsTell, UnbegunTell};
 
 use fated_walks::laws::walks_by_fates;
 use world_laws::laws::changes_by_moves;
@@ -24,6 +24,14 @@ pub fn halts_tell()
 /// Of one that is cut off before its first step none did.
 pub fn unbegun_tell()
     ensures { UnbegunTell }
+{
+    walks_by_fates();
+    changes_by_moves();
+}
+
+/// The same of a request of the node's own program.
+pub fn requests_tell()
+    ensures { RequestsTell }
 {
     walks_by_fates();
     changes_by_moves();
