@@ -44,14 +44,14 @@ module _ (lines : ℕ) (made : List Made) (k : ℕ) (choice : Choice) where
     counted : number ≡ fate_behind (disk_part (drop lines made)) (k - lines)
     counted = ap (λ b. if b then 0 else fate_behind (disk_part (drop lines made)) (k - lines)) (lt-leb k lines more)
 
-    some_number : (disk_part (drop lines made) ≡ [] → ⊥) → number ≡ suc (k - lines - 4)
+    pub some_number : (disk_part (drop lines made) ≡ [] → ⊥) → number ≡ suc (k - lines - 4)
     some_number some = counted ∙ by (disk_part (drop lines made)) some
       where
         by : (ms : List Made) → (ms ≡ [] → ⊥) → fate_behind ms (k - lines) ≡ suc (k - lines - 4)
         by [] apart = absurd (apart refl)
         by (m ∷ ms) apart = refl
 
-    none_number : disk_part (drop lines made) ≡ [] → number ≡ k - lines
+    pub none_number : disk_part (drop lines made) ≡ [] → number ≡ k - lines
     none_number none = counted ∙ ap (λ ms. fate_behind ms (k - lines)) none
 
     -- its fate
