@@ -5,3 +5,4 @@ pub mod ReadRequests
 pub mod ReadStarts
 pub mod ReadStops
 pub mod ReadTurns
+pub mod ReadingsAsk

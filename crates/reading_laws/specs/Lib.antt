@@ -1,3 +1,4 @@
 pub mod TurnsAreRead
 pub mod RequestsAreRead
 pub mod StartsAreRead
+pub mod ReadingsAsk

@@ -1,5 +1,6 @@
 //! Laws of what the calls of one event say of it.
 
+ghost use Rattle.reading_laws.specs.ReadingsAsk.{ReadingsAsk};
 ghost use Rattle.reading_laws.specs.RequestsAreRead.{RequestsAreRead};
 ghost use Rattle.reading_laws.specs.StartsAreRead.{StartsAreRead};
 ghost use Rattle.reading_laws.specs.TurnsAreRead.{TurnsAreRead};
@@ -105,3 +106,8 @@ pub fn starts_are_read()
     failed_starts_leave();
     starts_fail_for_want();
 }
+
+/// What is read is what an event asks for with these fates and this stop.
+pub fn readings_ask()
+    ensures { ReadingsAsk }
+{}
