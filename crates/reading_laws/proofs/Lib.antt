@@ -1,3 +1,4 @@
+pub mod GoneTurns
 pub mod ReadAppends
 pub mod ReadCalls
 pub mod ReadEnds

@@ -2,3 +2,4 @@ pub mod TurnsAreRead
 pub mod RequestsAreRead
 pub mod StartsAreRead
 pub mod ReadingsAsk
+pub mod GoneTurns

@@ -1,5 +1,6 @@
 //! Laws of what the calls of one event say of it.
 
+ghost use Rattle.reading_laws.specs.GoneTurns.{TurnsTell};
 ghost use Rattle.reading_laws.specs.ReadingsAsk.{ReadingsAsk};
 ghost use Rattle.reading_laws.specs.RequestsAreRead.{RequestsAreRead};
 ghost use Rattle.reading_laws.specs.StartsAreRead.{StartsAreRead};
@@ -17,7 +18,9 @@ use memory_net::laws::{are_no_messages, examples_ask_so, hosts_tell_receivers, s
 use mirrored_nets::laws::{failed_starts_leave, starts_fail_for_want, starts_leave};
 use model_laws::rules::steps_keep_place;
 use node_at::laws::steps_reply;
-use node_events::laws::{requests_are_events, turns_are_events};
+use node_events::laws::{
+    halts_are_events, requests_are_events, stops_are_events, turns_are_events, unbegun_are_events,
+};
 use node_worlds::laws::restarts_on_records;
 use node_worlds::lives::crashes_are_met;
 use record_bytes::read::are_apart;
@@ -25,6 +28,8 @@ use record_bytes::write::are_bodies;
 use site_memory::laws::{calls_fail_as_told, chosen_are_images, links_hold};
 use site_memory::machine::MemSite;
 use small_envelopes::laws::bare_are_in_limits;
+use told_stops::laws::{halts_tell, stops_tell, unbegun_tell};
+use torn_appends::laws::appends_torn;
 
 /// Whatever call of a turn is armed, the calls that it made are read.
 pub fn turns_are_read()
@@ -110,4 +115,9 @@ pub fn starts_are_read()
 /// What is read is what an event asks for with these fates and this stop.
 pub fn readings_ask()
     ensures { ReadingsAsk }
+{}
+
+/// Of a turn in which its node went down the first steps are those of its event that counted, and no others.
+pub fn turns_tell()
+    ensures { TurnsTell }
 {}
