@@ -22,9 +22,6 @@ use Rattle.call_readings.specs.declared.became.Became.TheVariants as becomes
 same_stop : (k j : ℕ) (choice left : Choice) → arms.Stop k choice ≡ arms.Stop j left → (k ≡ j) × (choice ≡ left)
 same_stop k j choice left e = let a : k ≡ j = cc in let b : choice ≡ left = cc in (a, b)
 
-stop_fails : (k j : ℕ) (choice : Choice) → arms.Stop k choice ≡ arms.Fail j → ⊥
-stop_fails k j choice e = cc
-
 same_number : (a b : ℕ) → Some a ≡ Some b → a ≡ b
 same_number a b e = cc
 
@@ -91,12 +88,7 @@ module _ (lines : ℕ) (made : List Made) (k : ℕ) (choice : Choice) where
   abbrev pub Falls : List Bool → Type 0
   Falls fates = StopsInStep lines made choice fates (Some number) kept ⊎ StopsBefore lines fates (Some number) kept
 
-  -- where it comes before the first step
-  pub none_before : (fates : List Bool) → number ≡ 0 → Falls fates → [] ≡ fates
-  none_before fates first (inl s) = let e = same_number number (s.before + 1) s.until_is in absurd (omega (arith, first, e))
-  none_before fates first (inr s) = sym s.fates_are
-
-  -- and where it is one of its steps'
+  -- where it is one of its steps'
   pub one_at : (fates : List Bool) (last : Bool) → 1 ≤ number → ((before : ℕ) (l : Bool) → number ≡ before + 1 → IsKept lines made choice before l kept → last ≡ l) → Falls fates → struck (number - 1) last ≡ fates
   one_at fates last least is (inl s) =
       let e = same_number number (s.before + 1) s.until_is in
@@ -184,11 +176,3 @@ module _ (lines : ℕ) (made : List Made) where
       anew = λ off some. (refl, sym f, sym u);
       stays = λ on. absurd (true≢false (is ∙ on));
     }
-
-  -- where the machine was to stop, it didn't halt
-  pub stopped_goes : (k : ℕ) (choice : Choice) (became : Became) (fates : List Bool) (until : Option ℕ) → ReadsAs (arms.Stop k choice) lines made became fates until → is_halted became ≡ false
-  stopped_goes k choice becomes.Stays fates until h = refl
-  stopped_goes k choice (becomes.Falls kept left) fates until h = refl
-  stopped_goes k choice becomes.Halts fates until ((j, is), H, none) = absurd (stop_fails k j choice is)
-  stopped_goes k choice (becomes.FallsAnew kept left) fates until h = refl
-  stopped_goes k choice becomes.HaltsAnew fates until ((j, is), last, f, u) = absurd (stop_fails k j choice is)

@@ -120,4 +120,37 @@ pub fn readings_ask()
 /// Of a turn in which its node went down the first steps are those of its event that counted, and no others.
 pub fn turns_tell()
     ensures { TurnsTell }
-{}
+{
+    posts_are_addressed();
+    bytes_mean_one_thing();
+    posts_say();
+    posts_dont_wait();
+    ticks_ask();
+    examples_are_node_bases();
+    calls_post::<MemSite>();
+    serve_as_nets::<MemSite>();
+    are_no_messages();
+    hosts_tell_receivers();
+    stays_closed::<MemSite>();
+    turns_are_events();
+    crashes_are_met::<MemSite>();
+    chosen_are_images();
+    bare_are_in_limits();
+    bytes_wait_or_not();
+    restarts_on_records::<MemSite>();
+    are_bodies();
+    grows_by_one();
+    shrinks_the_same();
+    steps_keep_place();
+    steps_pass_on();
+    steps_reply();
+    paths_name_targets();
+    nodes_own_is_deliverable();
+    appends_torn();
+    stops_are_events();
+    unbegun_are_events();
+    halts_are_events();
+    stops_tell();
+    unbegun_tell();
+    halts_tell();
+}
