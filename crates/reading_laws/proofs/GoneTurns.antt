@@ -32,7 +32,7 @@ use Rattle.mirrored_nets.proofs.StruckCuts.{is_fated}
 use Rattle.mirrored_nets.proofs.TurnsTaken.{HeardTurn, TurnLaws}
 use Rattle.reading_laws.specs.GoneTurns.{TellsFallen, TellsHalted, TurnsTell}
 
-came_join : (xs ys : List TurnStep) → came_of (xs ++ ys) ≡ came_of xs ++ came_of ys
+pub came_join : (xs ys : List TurnStep) → came_of (xs ++ ys) ≡ came_of xs ++ came_of ys
 came_join [] ys = refl
 came_join (x ∷ xs) ys = ap (λ z. x.came ++ z) (came_join xs ys) ∙ sym (append_assoc x.came (came_of xs) (came_of ys))
 

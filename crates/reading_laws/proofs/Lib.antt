@@ -1,3 +1,4 @@
+pub mod GoneRequests
 pub mod GoneTurns
 pub mod ReadAppends
 pub mod ReadCalls

@@ -3,3 +3,4 @@ pub mod RequestsAreRead
 pub mod StartsAreRead
 pub mod ReadingsAsk
 pub mod GoneTurns
+pub mod GoneRequests

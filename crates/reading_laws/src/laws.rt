@@ -1,5 +1,6 @@
 //! Laws of what the calls of one event say of it.
 
+ghost use Rattle.reading_laws.specs.GoneRequests.{AskedTell};
 ghost use Rattle.reading_laws.specs.GoneTurns.{TurnsTell};
 ghost use Rattle.reading_laws.specs.ReadingsAsk.{ReadingsAsk};
 ghost use Rattle.reading_laws.specs.RequestsAreRead.{RequestsAreRead};
@@ -28,8 +29,9 @@ use record_bytes::write::are_bodies;
 use site_memory::laws::{calls_fail_as_told, chosen_are_images, links_hold};
 use site_memory::machine::MemSite;
 use small_envelopes::laws::bare_are_in_limits;
-use told_stops::laws::{halts_tell, stops_tell, unbegun_tell};
+use told_stops::laws::{halts_tell, requests_tell, stops_tell, unbegun_tell};
 use torn_appends::laws::appends_torn;
+use world_laws::laws::changes_by_moves;
 
 /// Whatever call of a turn is armed, the calls that it made are read.
 pub fn turns_are_read()
@@ -153,4 +155,40 @@ pub fn turns_tell()
     stops_tell();
     unbegun_tell();
     halts_tell();
+}
+
+/// So are those of a request.
+pub fn asked_tell()
+    ensures { AskedTell }
+{
+    posts_are_addressed();
+    bytes_mean_one_thing();
+    posts_say();
+    posts_dont_wait();
+    ticks_ask();
+    examples_are_node_bases();
+    calls_post::<MemSite>();
+    serve_as_nets::<MemSite>();
+    are_no_messages();
+    examples_ask_so();
+    hosts_tell_receivers();
+    stays_closed::<MemSite>();
+    turns_are_events();
+    crashes_are_met::<MemSite>();
+    chosen_are_images();
+    bare_are_in_limits();
+    bytes_wait_or_not();
+    restarts_on_records::<MemSite>();
+    are_bodies();
+    grows_by_one();
+    shrinks_the_same();
+    steps_keep_place();
+    steps_pass_on();
+    steps_reply();
+    paths_name_targets();
+    nodes_own_is_deliverable();
+    appends_torn();
+    requests_are_events();
+    changes_by_moves();
+    requests_tell();
 }

@@ -9,573 +9,70 @@ use site_memory::entry::{Deed, Entry};
 use std::alloc::{AllocError, Global};
 use std::test::Fail;
 
-/// How many calls have no fate, the calls, the armed one, whether the node halted; and what became of it, the fates and the stop.
+/// How many calls have no fate; the calls; which is armed: `f` fails, at `k`, `d` or a digit the machine stops, and keeps, drops or fills; what
+/// became of the node: `s` stays, `f` fell, `h` halted, and in capitals as its journal was written anew; how many calls are kept; the fates; the
+/// stop.
 type Row = (
     usize,
     &'static [u8],
-    Armed,
-    bool,
-    Became,
-    Named,
-    Option<u64>,
+    &'static [u8],
+    u8,
+    usize,
+    &'static [u8],
+    u8,
 );
 
 const ROWS: &[Row] = &[
     // a call fails, or none
-    (
-        0,
-        b"wswsap",
-        Armed::No,
-        false,
-        Became::Stays,
-        Named::None,
-        None,
-    ),
-    (
-        0,
-        b"Wap",
-        Armed::Fail(1),
-        false,
-        Became::Stays,
-        Named::Struck {
-            before: 0,
-            last: false,
-        },
-        None,
-    ),
-    (
-        0,
-        b"wSap",
-        Armed::Fail(2),
-        false,
-        Became::Stays,
-        Named::Struck {
-            before: 0,
-            last: false,
-        },
-        None,
-    ),
-    (
-        0,
-        b"wsW",
-        Armed::Fail(3),
-        true,
-        Became::Halts,
-        Named::Struck {
-            before: 0,
-            last: false,
-        },
-        Some(1),
-    ),
-    (
-        0,
-        b"wswS",
-        Armed::Fail(4),
-        true,
-        Became::Halts,
-        Named::Struck {
-            before: 0,
-            last: true,
-        },
-        Some(1),
-    ),
-    (
-        0,
-        b"wswsAp",
-        Armed::Fail(5),
-        false,
-        Became::Stays,
-        Named::Struck {
-            before: 1,
-            last: false,
-        },
-        None,
-    ),
-    (
-        0,
-        b"wswsaP",
-        Armed::Fail(6),
-        false,
-        Became::Stays,
-        Named::Struck {
-            before: 2,
-            last: false,
-        },
-        None,
-    ),
-    (
-        0,
-        b"wswsap",
-        Armed::Fail(7),
-        false,
-        Became::Stays,
-        Named::None,
-        None,
-    ),
-    (
-        0,
-        b"aP",
-        Armed::Fail(2),
-        false,
-        Became::Stays,
-        Named::Struck {
-            before: 1,
-            last: false,
-        },
-        None,
-    ),
-    (
-        0,
-        b"",
-        Armed::Fail(1),
-        false,
-        Became::Stays,
-        Named::None,
-        None,
-    ),
+    (0, b"wswsap", b"", b's', 0, b"", b'-'),
+    (0, b"Wap", b"f1", b's', 0, b"n", b'-'),
+    (0, b"wSap", b"f2", b's', 0, b"n", b'-'),
+    (0, b"wsW", b"f3", b'h', 0, b"n", b'1'),
+    (0, b"wswS", b"f4", b'h', 0, b"y", b'1'),
+    (0, b"wswsAp", b"f5", b's', 0, b"yn", b'-'),
+    (0, b"wswsaP", b"f6", b's', 0, b"yyn", b'-'),
+    (0, b"wswsap", b"f7", b's', 0, b"", b'-'),
+    (0, b"aP", b"f2", b's', 0, b"yn", b'-'),
+    (0, b"", b"f1", b's', 0, b"", b'-'),
     // behind the interim line
-    (
-        1,
-        b"Aap",
-        Armed::Fail(1),
-        false,
-        Became::Stays,
-        Named::None,
-        None,
-    ),
-    (
-        1,
-        b"aAp",
-        Armed::Fail(2),
-        false,
-        Became::Stays,
-        Named::Struck {
-            before: 0,
-            last: false,
-        },
-        None,
-    ),
-    (
-        1,
-        b"awsW",
-        Armed::Fail(4),
-        true,
-        Became::Halts,
-        Named::Struck {
-            before: 0,
-            last: false,
-        },
-        Some(1),
-    ),
-    // the machine stops at a record's write or sync, at its gate's
-    (
-        0,
-        b"wswsap",
-        Armed::Stop(1, Choice::Keep),
-        false,
-        Became::Falls {
-            kept: 1,
-            choice: Choice::Keep,
-        },
-        Named::Struck {
-            before: 0,
-            last: false,
-        },
-        Some(1),
-    ),
-    (
-        0,
-        b"wswsap",
-        Armed::Stop(2, Choice::Drop),
-        false,
-        Became::Falls {
-            kept: 1,
-            choice: Choice::Drop,
-        },
-        Named::Struck {
-            before: 0,
-            last: false,
-        },
-        Some(1),
-    ),
-    (
-        0,
-        b"wswsap",
-        Armed::Stop(2, Choice::Fill(1)),
-        false,
-        Became::Falls {
-            kept: 1,
-            choice: Choice::Fill(1),
-        },
-        Named::Struck {
-            before: 0,
-            last: false,
-        },
-        Some(1),
-    ),
-    (
-        0,
-        b"wswsap",
-        Armed::Stop(3, Choice::Keep),
-        false,
-        Became::Falls {
-            kept: 3,
-            choice: Choice::Keep,
-        },
-        Named::Struck {
-            before: 0,
-            last: true,
-        },
-        Some(1),
-    ),
-    (
-        0,
-        b"wswsap",
-        Armed::Stop(3, Choice::Drop),
-        false,
-        Became::Falls {
-            kept: 2,
-            choice: Choice::Drop,
-        },
-        Named::Struck {
-            before: 0,
-            last: false,
-        },
-        Some(1),
-    ),
-    (
-        0,
-        b"wswsap",
-        Armed::Stop(3, Choice::Fill(1)),
-        false,
-        Became::Falls {
-            kept: 3,
-            choice: Choice::Fill(1),
-        },
-        Named::Struck {
-            before: 0,
-            last: true,
-        },
-        Some(1),
-    ),
-    (
-        0,
-        b"wswsap",
-        Armed::Stop(3, Choice::Fill(0)),
-        false,
-        Became::Falls {
-            kept: 3,
-            choice: Choice::Fill(0),
-        },
-        Named::Struck {
-            before: 0,
-            last: false,
-        },
-        Some(1),
-    ),
-    (
-        0,
-        b"wswsap",
-        Armed::Stop(4, Choice::Keep),
-        false,
-        Became::Falls {
-            kept: 4,
-            choice: Choice::Keep,
-        },
-        Named::Struck {
-            before: 0,
-            last: true,
-        },
-        Some(1),
-    ),
-    (
-        0,
-        b"wswsap",
-        Armed::Stop(4, Choice::Drop),
-        false,
-        Became::Falls {
-            kept: 3,
-            choice: Choice::Drop,
-        },
-        Named::Struck {
-            before: 0,
-            last: false,
-        },
-        Some(1),
-    ),
-    (
-        0,
-        b"wswsap",
-        Armed::Stop(4, Choice::Fill(1)),
-        false,
-        Became::Falls {
-            kept: 3,
-            choice: Choice::Fill(1),
-        },
-        Named::Struck {
-            before: 0,
-            last: true,
-        },
-        Some(1),
-    ),
-    (
-        0,
-        b"wswsap",
-        Armed::Stop(4, Choice::Fill(2)),
-        false,
-        Became::Falls {
-            kept: 3,
-            choice: Choice::Fill(2),
-        },
-        Named::Struck {
-            before: 0,
-            last: false,
-        },
-        Some(1),
-    ),
+    (1, b"Aap", b"f1", b's', 0, b"", b'-'),
+    (1, b"aAp", b"f2", b's', 0, b"n", b'-'),
+    (1, b"awsW", b"f4", b'h', 0, b"n", b'1'),
+    // the machine stops at a record's body, and at its gate
+    (0, b"wswsap", b"k1", b'f', 1, b"n", b'1'),
+    (0, b"wswsap", b"d2", b'f', 1, b"n", b'1'),
+    (0, b"wswsap", b"12", b'f', 1, b"n", b'1'),
+    (0, b"wswsap", b"k3", b'f', 3, b"y", b'1'),
+    (0, b"wswsap", b"d3", b'f', 2, b"n", b'1'),
+    (0, b"wswsap", b"13", b'f', 3, b"y", b'1'),
+    (0, b"wswsap", b"03", b'f', 3, b"n", b'1'),
+    (0, b"wswsap", b"k4", b'f', 4, b"y", b'1'),
+    (0, b"wswsap", b"d4", b'f', 3, b"n", b'1'),
+    (0, b"wswsap", b"14", b'f', 3, b"y", b'1'),
+    (0, b"wswsap", b"24", b'f', 3, b"n", b'1'),
     // at an answer or a post
-    (
-        0,
-        b"wswsap",
-        Armed::Stop(5, Choice::Keep),
-        false,
-        Became::Falls {
-            kept: 5,
-            choice: Choice::Keep,
-        },
-        Named::Struck {
-            before: 1,
-            last: true,
-        },
-        Some(2),
-    ),
-    (
-        0,
-        b"wswsap",
-        Armed::Stop(5, Choice::Drop),
-        false,
-        Became::Falls {
-            kept: 4,
-            choice: Choice::Drop,
-        },
-        Named::Struck {
-            before: 1,
-            last: false,
-        },
-        Some(2),
-    ),
-    (
-        0,
-        b"wswsap",
-        Armed::Stop(6, Choice::Fill(9)),
-        false,
-        Became::Falls {
-            kept: 5,
-            choice: Choice::Fill(9),
-        },
-        Named::Struck {
-            before: 2,
-            last: false,
-        },
-        Some(3),
-    ),
-    (
-        0,
-        b"ap",
-        Armed::Stop(1, Choice::Keep),
-        false,
-        Became::Falls {
-            kept: 1,
-            choice: Choice::Keep,
-        },
-        Named::Struck {
-            before: 0,
-            last: true,
-        },
-        Some(1),
-    ),
-    (
-        0,
-        b"ap",
-        Armed::Stop(2, Choice::Drop),
-        false,
-        Became::Falls {
-            kept: 1,
-            choice: Choice::Drop,
-        },
-        Named::Struck {
-            before: 1,
-            last: false,
-        },
-        Some(2),
-    ),
-    (
-        0,
-        b"wswsap",
-        Armed::Stop(7, Choice::Keep),
-        false,
-        Became::Stays,
-        Named::None,
-        None,
-    ),
-    (
-        0,
-        b"wswsap",
-        Armed::Stop(0, Choice::Keep),
-        false,
-        Became::Stays,
-        Named::None,
-        None,
-    ),
+    (0, b"wswsap", b"k5", b'f', 5, b"yy", b'2'),
+    (0, b"wswsap", b"d5", b'f', 4, b"yn", b'2'),
+    (0, b"wswsap", b"96", b'f', 5, b"yyn", b'3'),
+    (0, b"ap", b"k1", b'f', 1, b"y", b'1'),
+    (0, b"ap", b"d2", b'f', 1, b"yn", b'2'),
+    (0, b"wswsap", b"k7", b's', 0, b"", b'-'),
+    (0, b"wswsap", b"k0", b's', 0, b"", b'-'),
     // at the interim line, and behind it
-    (
-        1,
-        b"awswsap",
-        Armed::Stop(1, Choice::Keep),
-        false,
-        Became::Falls {
-            kept: 1,
-            choice: Choice::Keep,
-        },
-        Named::None,
-        Some(0),
-    ),
-    (
-        1,
-        b"awswsap",
-        Armed::Stop(1, Choice::Drop),
-        false,
-        Became::Falls {
-            kept: 0,
-            choice: Choice::Drop,
-        },
-        Named::None,
-        Some(0),
-    ),
-    (
-        1,
-        b"awswsap",
-        Armed::Stop(4, Choice::Keep),
-        false,
-        Became::Falls {
-            kept: 4,
-            choice: Choice::Keep,
-        },
-        Named::Struck {
-            before: 0,
-            last: true,
-        },
-        Some(1),
-    ),
-    (
-        1,
-        b"awswsap",
-        Armed::Stop(6, Choice::Drop),
-        false,
-        Became::Falls {
-            kept: 5,
-            choice: Choice::Drop,
-        },
-        Named::Struck {
-            before: 1,
-            last: false,
-        },
-        Some(2),
-    ),
+    (1, b"awswsap", b"k1", b'f', 1, b"", b'0'),
+    (1, b"awswsap", b"d1", b'f', 0, b"", b'0'),
+    (1, b"awswsap", b"k4", b'f', 4, b"y", b'1'),
+    (1, b"awswsap", b"d6", b'f', 5, b"yn", b'2'),
     // as the journal is written anew behind the steps
-    (
-        0,
-        b"apwswsws",
-        Armed::No,
-        false,
-        Became::Stays,
-        Named::None,
-        None,
-    ),
-    (
-        0,
-        b"apwsW",
-        Armed::Fail(5),
-        false,
-        Became::Stays,
-        Named::None,
-        None,
-    ),
-    (
-        0,
-        b"apwswsW",
-        Armed::Fail(7),
-        true,
-        Became::HaltsAnew,
-        Named::None,
-        None,
-    ),
-    (
-        0,
-        b"apwswswS",
-        Armed::Fail(8),
-        true,
-        Became::HaltsAnew,
-        Named::None,
-        None,
-    ),
-    (
-        0,
-        b"wswsapswsw",
-        Armed::Stop(8, Choice::Fill(1)),
-        false,
-        Became::FallsAnew {
-            kept: 8,
-            choice: Choice::Fill(1),
-        },
-        Named::None,
-        None,
-    ),
-    (
-        0,
-        b"apwswsws",
-        Armed::Stop(4, Choice::Fill(1)),
-        false,
-        Became::FallsAnew {
-            kept: 3,
-            choice: Choice::Fill(1),
-        },
-        Named::None,
-        None,
-    ),
-    (
-        0,
-        b"apwswsws",
-        Armed::Stop(3, Choice::Keep),
-        false,
-        Became::FallsAnew {
-            kept: 3,
-            choice: Choice::Keep,
-        },
-        Named::None,
-        None,
-    ),
-    (
-        0,
-        b"apwswsws",
-        Armed::Stop(3, Choice::Drop),
-        false,
-        Became::FallsAnew {
-            kept: 2,
-            choice: Choice::Drop,
-        },
-        Named::None,
-        None,
-    ),
-    (
-        0,
-        b"apwswsws",
-        Armed::Stop(9, Choice::Keep),
-        false,
-        Became::Stays,
-        Named::None,
-        None,
-    ),
+    (0, b"apwswsws", b"", b's', 0, b"", b'-'),
+    (0, b"apwsW", b"f5", b's', 0, b"", b'-'),
+    (0, b"apwswsW", b"f7", b'H', 0, b"", b'-'),
+    (0, b"apwswswS", b"f8", b'H', 0, b"", b'-'),
+    (0, b"wswsapswsw", b"18", b'F', 8, b"", b'-'),
+    (0, b"apwswsws", b"14", b'F', 3, b"", b'-'),
+    (0, b"apwswsws", b"k3", b'F', 3, b"", b'-'),
+    (0, b"apwswsws", b"d3", b'F', 2, b"", b'-'),
+    (0, b"apwswsws", b"k9", b's', 0, b"", b'-'),
 ];
 
 fn deed(alloc: Global, letter: u8) -> Result<Deed, AllocError> {
@@ -599,16 +96,67 @@ fn entries(alloc: Global, calls: &[u8]) -> Result<Vec<Entry>, AllocError> {
     Ok(entries)
 }
 
+fn digit(letter: u8) -> u8 {
+    letter.wrapping_sub(b'0')
+}
+
+fn choice(armed: &[u8]) -> Choice {
+    match armed.first() {
+        Some(b'k') => Choice::Keep,
+        Some(b'd') => Choice::Drop,
+        Some(byte) => Choice::Fill(digit(*byte)),
+        None => Choice::Keep,
+    }
+}
+
+fn armed_of(armed: &[u8]) -> Armed {
+    let Some(last) = armed.last() else {
+        return Armed::No;
+    };
+    let call = digit(*last) as u32;
+    match armed.first() {
+        Some(b'f') => Armed::Fail(call),
+        _ => Armed::Stop(call, choice(armed)),
+    }
+}
+
+fn became_of(letter: u8, kept: usize, armed: &[u8]) -> Became {
+    let choice = choice(armed);
+    match letter {
+        b's' => Became::Stays,
+        b'f' => Became::Falls { kept, choice },
+        b'h' => Became::Halts,
+        b'F' => Became::FallsAnew { kept, choice },
+        _ => Became::HaltsAnew,
+    }
+}
+
+fn named_of(fates: &[u8]) -> Named {
+    match fates.last() {
+        None => Named::None,
+        Some(last) => Named::Struck {
+            before: fates.len().wrapping_sub(1),
+            last: *last == b'y',
+        },
+    }
+}
+
 #[test]
 fn calls_come_to_what_they_are(rt: HostRuntime) -> Result<(), Fail> {
     let mut place: u32 = 0;
-    for (lines, calls, armed, halted, became, fates, until) in ROWS {
+    for (lines, calls, armed, became, kept, fates, until) in ROWS {
         let entries = entries(rt.alloc(), calls)?;
-        let found = read(*lines, entries.as_slice(), *armed, *halted);
+        let halted = *became == b'h' || *became == b'H';
+        let found = read(*lines, entries.as_slice(), armed_of(armed), halted);
+        let until = if *until == b'-' {
+            None
+        } else {
+            Some(digit(*until) as u64)
+        };
         let wanted = Reading {
-            became: *became,
-            fates: *fates,
-            until: *until,
+            became: became_of(*became, *kept, armed),
+            fates: named_of(fates),
+            until,
         };
         assert!(rt; found == wanted, "row {place}");
         place = place.wrapping_add(1);

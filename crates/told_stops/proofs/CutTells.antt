@@ -1,5 +1,5 @@
 -- What a turn of these steps did in which its node went down.
-use Rattle.std.specs.Prelude.{ℕ, List, [], ◌∷◌, ◌++◌, ◌≡◌, ◌⊎◌, Bool, true, false, Option, Some, drop, length, map}
+use Rattle.std.specs.Prelude.{ℕ, List, [], ◌∷◌, ◌++◌, ◌≡◌, ◌⊎◌, Bool, true, false, Some, drop, length, map}
 use Rattle.std.proofs.Common.{ap, inl, inr, refl, subst, sym, ◌∙◌}
 use Rattle.std.proofs.lemmas.List.{append-nil}
 use Rattle.at_base.specs.declared.record.Record.{Record}
@@ -9,11 +9,11 @@ use Rattle.at_model.specs.World.{Hosts, Input, Node, Turn, World, WorldEvent, no
 use Rattle.fated_walks.specs.Fated.{AreCut, AreFirstDue, Fated, IsPlanned, StartsWith, all_fates, book_of, fates_of, record_fates, taken_of}
 use Rattle.fated_walks.specs.WalksByFates.{WalksByFates}
 use Rattle.interposition.specs.Due.{due_outcomes}
-use Rattle.node_at.specs.Doings.{book_behind, came_of}
+use Rattle.node_at.specs.Doings.{book_behind}
 use Rattle.node_at.specs.Meanings.{Meaning}
 use Rattle.node_at.specs.State.{State}
 use Rattle.node_at.specs.TurnText.{TurnStep}
-use Rattle.node_events.specs.CallEffects.{effects_in, effects_of}
+use Rattle.node_events.specs.CallEffects.{effects_in}
 use Rattle.node_events.specs.NodeEvents.{IsAt, front_by}
 use Rattle.node_events.proofs.GivenSteps.{alike_effects}
 use Rattle.node_events.proofs.HaltEvents.{none_due}

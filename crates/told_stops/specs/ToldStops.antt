@@ -1,5 +1,5 @@
 -- What a turn did in which its node went down, as its event says it.
-use Rattle.std.specs.Prelude.{ℕ, List, [], ◌∷◌, ◌++◌, ◌+◌, ◌<◌, ◌⊎◌, ◌≡◌, Bool, true, Option, Some, length, map}
+use Rattle.std.specs.Prelude.{ℕ, List, [], ◌∷◌, ◌++◌, ◌+◌, ◌<◌, ◌⊎◌, ◌≡◌, Bool, true, Some, length, map}
 use Rattle.at_base.specs.declared.event.Event.TheVariants as events
 use Rattle.at_base.specs.declared.event.Local.{Local}
 use Rattle.at_base.specs.declared.record.Record.{Record}
