@@ -4,7 +4,6 @@ use Rattle.std.proofs.Common.{ap, arith, refl, subst, sym, ◌∙◌}
 use Rattle.std.proofs.lemmas.List.{length-map, length-take-le}
 use Rattle.site_memory.specs.Entries.{made_of, mades}
 use Rattle.site_memory.specs.declared.entry.Entry.{Entry}
-use Rattle.site_model.specs.Told.{Made}
 use Rattle.mirrored_nets.specs.Fates.{anew_of, disk_part}
 use Rattle.mirrored_nets.specs.TookAnew.{before_anew}
 use Rattle.mirrored_nets.proofs.JudgedAnew.{anew_so}

@@ -1,14 +1,13 @@
 -- Calls are read in one way.
-use Rattle.std.specs.Prelude.{ℕ, List, [], ◌∷◌, ◌+◌, ◌-◌, ◌≡◌, ◌≤◌, ◌<◌, ◌⊎◌, Bool, true, false, Option, None, Some, drop, if◌then◌else◌, length, nat_eq, nat_le, suc, zero}
+use Rattle.std.specs.Prelude.{ℕ, List, [], ◌∷◌, ◌+◌, ◌-◌, ◌≡◌, ◌≤◌, ◌<◌, ◌⊎◌, Bool, true, false, Option, None, Some, drop, if◌then◌else◌, length, nat_eq, suc}
 use Rattle.std.proofs.Common.{ap, arith, inl, inr, refl, subst, sym, true≢false, ◌∙◌}
 use Rattle.std.proofs.lemmas.Bool.{eq-eqb, lt-leb, ne_eqb}
 use Rattle.std.proofs.lemmas.List.{length-append}
 use Rattle.node_events.specs.NodeEvents.{one_if, struck}
-use Rattle.site_memory.specs.ToldCalls.{AreArmed}
 use Rattle.site_memory.specs.declared.arm.Choice.{Choice}
 use Rattle.site_model.specs.Told.{Call, Made, failed}
 use Rattle.torn_appends.specs.TornAppends.{stands_behind}
-use Rattle.mirrored_nets.specs.Fates.{AllDone, anew_of, disk_part}
+use Rattle.mirrored_nets.specs.Fates.{anew_of, disk_part}
 use Rattle.mirrored_nets.specs.Kept.{kept_at}
 use Rattle.mirrored_nets.specs.Took.{HaltsSo, IsKept, StopsBefore, StopsInStep}
 use Rattle.mirrored_nets.specs.TookAnew.{before_anew}
