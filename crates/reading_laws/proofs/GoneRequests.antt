@@ -1,5 +1,5 @@
 -- What a request did of a node in a net that mirrors a world, in which the node went down.
-use Rattle.std.specs.Prelude.{ℕ, List, [], ◌∷◌, ◌+◌, ◌≡◌, ◌≤◌, ◌<◌, ◌⊎◌, Bool, Option, Some, true, drop, length}
+use Rattle.std.specs.Prelude.{ℕ, List, [], ◌∷◌, ◌+◌, ◌≡◌, ◌≤◌, ◌<◌, ◌⊎◌, Bool, Option, Some, true, length}
 use Rattle.std.proofs.Common.{ap, inl, inr, refl, subst, sym, true≢false, ◌∙◌}
 use Rattle.std.proofs.lemmas.List.{append-nil}
 use Rattle.at_base.specs.Numbers.{Numbers}
@@ -27,7 +27,6 @@ use Rattle.site_memory.specs.declared.machine.MemSite.{MemSite}
 use Rattle.told_stops.specs.ToldStops.{RequestsTell, Tells, TellsStruck}
 use Rattle.torn_appends.specs.TornAppends.{AppendsTorn}
 use Rattle.world_laws.specs.Moves.{ChangesByMoves}
-use Rattle.mirrored_nets.specs.Fates.{fates_in}
 use Rattle.mirrored_nets.specs.Goings.{IsSet}
 use Rattle.mirrored_nets.specs.Mirrors.{Mirrors}
 use Rattle.mirrored_nets.specs.Took.{AnswersSo, ComesTo, HaltsSo, StopsBefore, StopsInStep, TookRequest}

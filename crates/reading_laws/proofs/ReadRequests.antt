@@ -1,5 +1,5 @@
 -- Requests of a node in a net that mirrors a world, at which a call is armed or none: their calls are read.
-use Rattle.std.specs.Prelude.{ℕ, List, [], ◌∷◌, ◌++◌, ◌+◌, ◌≡◌, ◌≤◌, ◌<◌, ◌⊎◌, Option, Some, None, false, drop, length, suc, zero}
+use Rattle.std.specs.Prelude.{ℕ, List, [], ◌∷◌, ◌++◌, ◌+◌, ◌≡◌, ◌≤◌, Some, None, false, drop, length, suc, zero}
 use Rattle.std.proofs.Common.{ap, append-nil, arith, inl, inr, refl, subst, sym, true≢false, ◌∙◌}
 use Rattle.std.proofs.Math.Seq.{drop-append_seam}
 use Rattle.at_base.specs.declared.event.Event.TheVariants as events

@@ -1,5 +1,5 @@
 -- Starts of a node that has started before: their calls are read.
-use Rattle.std.specs.Prelude.{ℕ, List, [], ◌∷◌, ◌++◌, ◌+◌, ◌-◌, ◌≡◌, ◌≤◌, ◌<◌, ◌⊎◌, Bool, true, false, Err, Ok, Result, drop, length, map, nat_eq, nat_le, nat_lt, not, suc, zero}
+use Rattle.std.specs.Prelude.{ℕ, List, [], ◌∷◌, ◌++◌, ◌+◌, ◌-◌, ◌≡◌, ◌≤◌, ◌<◌, ◌⊎◌, Bool, true, false, Err, Ok, drop, length, map, nat_eq, nat_le, not, suc, zero}
 use Rattle.std.proofs.Common.{ap, arith, inl, inr, refl, subst, sym, true≢false, ◌∙◌}
 use Rattle.std.proofs.Math.Seq.{drop-append_seam}
 use Rattle.std.proofs.lemmas.Bool.{eq-eqb, eqb-false, eqb-true, leb-false, leb-true, ne_eqb}
@@ -12,7 +12,6 @@ use Rattle.journal_at.specs.declared.version.Version.TheVariants.{One, Two}
 use Rattle.memory_net.specs.Calls.{Begins}
 use Rattle.memory_net.proofs.Standing.{same_some}
 use Rattle.node_at.specs.Starts.{BeganTo, CannotStart, StandFor, append_calls, start_calls}
-use Rattle.node_at.specs.declared.fault.StartFault.{StartFault}
 use Rattle.node_at.specs.declared.fault.StartFault.TheVariants as ends
 use Rattle.node_at.specs.declared.node.Node.{Node}
 use Rattle.record_bytes.specs.Versions.{AreApart}
@@ -27,7 +26,7 @@ use Rattle.site_model.specs.Counts.{Rose}
 use Rattle.site_model.specs.Site.{Counts as Numbers}
 use Rattle.site_model.specs.Told.{BreaksOff, Call, Made, done, failed}
 use Rattle.torn_appends.specs.TornAppends.{stands_behind}
-use Rattle.mirrored_nets.specs.DueStarts.{CanBegin, IsWant, StartsFailForWant}
+use Rattle.mirrored_nets.specs.DueStarts.{StartsFailForWant}
 use Rattle.mirrored_nets.specs.Fates.{AllDone, refusals}
 use Rattle.mirrored_nets.specs.Kept.{kept_at}
 use Rattle.mirrored_nets.specs.StruckStarts.{FailedStartsLeave, IsMarked, LeavesFailed, LeavesStart, StartsLeave}

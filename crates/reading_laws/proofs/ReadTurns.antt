@@ -1,10 +1,9 @@
 -- Turns of a node in a net that mirrors a world, at which a call is armed or none: their calls are read.
-use Rattle.std.specs.Prelude.{ℕ, List, [], ◌∷◌, ◌++◌, ◌+◌, ◌-◌, ◌≡◌, ◌≤◌, ◌<◌, ◌^◌, ◌⊎◌, Bool, Option, Some, None, true, false, drop, if◌then◌else◌, length, nat_le, option_map, suc, take, zero}
+use Rattle.std.specs.Prelude.{ℕ, List, [], ◌∷◌, ◌++◌, ◌+◌, ◌-◌, ◌≡◌, ◌≤◌, ◌<◌, ◌^◌, ◌⊎◌, Bool, Some, None, true, false, drop, if◌then◌else◌, length, nat_le, option_map, suc, take, zero}
 use Rattle.std.proofs.Common.{ap, append-nil, arith, inl, inr, refl, subst, sym, true≢false, ◌∙◌}
 use Rattle.std.proofs.Math.Seq.{drop-append_seam}
 use Rattle.std.proofs.lemmas.Bool.{leb-false, leb-true}
-use Rattle.at_model.specs.World.{Node, example_base, example_hosts}
-use Rattle.journal_at.specs.StandingBodies.{Makes, lay, raise}
+use Rattle.journal_at.specs.StandingBodies.{Makes}
 use Rattle.journal_at.specs.declared.journal.Append.TheVariants as appends
 use Rattle.journal_at.specs.declared.journal.Compact.{Compact}
 use Rattle.journal_at.specs.declared.journal.Compact.TheVariants as compacts
@@ -12,8 +11,8 @@ use Rattle.memory_net.proofs.Standing.{same_some}
 use Rattle.memory_net.specs.Calls.{Turns}
 use Rattle.node_at.specs.Doings.{refused_of}
 use Rattle.node_at.specs.Endings.{Ends, Renews, Rested, TakesTurn}
-use Rattle.node_at.specs.Meanings.{Hears, next_input}
-use Rattle.node_at.specs.ShrunkJournals.{Anew, IsDue, Shrinks}
+use Rattle.node_at.specs.Meanings.{next_input}
+use Rattle.node_at.specs.ShrunkJournals.{Anew, Shrinks}
 use Rattle.node_at.specs.State.{State, seen}
 use Rattle.node_at.specs.Turns.{IsLine, is_heard}
 use Rattle.node_at.specs.declared.node.Node.{Node as Noded}
@@ -22,7 +21,6 @@ use Rattle.node_at.specs.declared.shrink.Shrunk.{Shrunk}
 use Rattle.node_at.specs.declared.shrink.Shrunk.TheVariants as shrunks
 use Rattle.node_at.specs.declared.turn.Turned.{Turned}
 use Rattle.node_at.specs.declared.turn.Turned.TheVariants as turneds
-use Rattle.node_events.specs.NodeEvents.{IsInput}
 use Rattle.node_worlds.proofs.Rows.{grown_same}
 use Rattle.node_worlds.specs.Acts.{IsUp}
 use Rattle.node_worlds.specs.Nets.{Place}
@@ -34,20 +32,18 @@ use Rattle.site_memory.specs.declared.arm.Choice.{Choice}
 use Rattle.site_memory.specs.declared.machine.MemSite.{MemSite}
 use Rattle.site_model.specs.Counts.{Rose}
 use Rattle.site_model.specs.Told.{Made}
-use Rattle.mirrored_nets.specs.Fates.{AllDone, anew_of, behind_sent, refusals}
-use Rattle.mirrored_nets.specs.Goings.{ms_of}
+use Rattle.mirrored_nets.specs.Fates.{AllDone, anew_of, refusals}
 use Rattle.mirrored_nets.specs.Mirrors.{Mirrors}
 use Rattle.mirrored_nets.specs.StruckTurns.{fails_of}
 use Rattle.mirrored_nets.specs.Took.{Adds, EndsSo, HasRoom, IsTriedLine, IsWhole}
 use Rattle.mirrored_nets.specs.declared.judged.Armed.{Armed}
 use Rattle.mirrored_nets.specs.declared.judged.Armed.TheVariants as arms
-use Rattle.mirrored_nets.proofs.CallRows.{all_refused_none, behind_first, none_refused, refusals_join}
-use Rattle.mirrored_nets.proofs.CutCalls.{all_both}
-use Rattle.mirrored_nets.proofs.EndedTurns.{ends_whole, turn_kept}
+use Rattle.mirrored_nets.proofs.CallRows.{all_refused_none, none_refused, refusals_join}
+use Rattle.mirrored_nets.proofs.EndedTurns.{turn_kept}
 use Rattle.mirrored_nets.proofs.FallenHosts.{InWorld, IsBefore, NetLaws, in_world, up_there}
 use Rattle.mirrored_nets.proofs.HaltedGates.{broken_gate}
 use Rattle.mirrored_nets.proofs.HaltedTurns.{DidHalt, began_halting}
-use Rattle.mirrored_nets.proofs.InputsHeard.{input_heard, line_told, means_so, works_heard}
+use Rattle.mirrored_nets.proofs.InputsHeard.{line_told, works_heard}
 use Rattle.mirrored_nets.proofs.InterimLines.{halts_no_line}
 use Rattle.mirrored_nets.proofs.RewritingCalls.{renewed}
 use Rattle.mirrored_nets.proofs.StruckHalts.{GateFails, gate_fails}
@@ -59,14 +55,14 @@ use Rattle.mirrored_nets.proofs.TriedLines.{line_long, line_sendings, none_behin
 use Rattle.mirrored_nets.proofs.TurnsRead.{StepsRead}
 use Rattle.mirrored_nets.proofs.TurnsTaken.{HeardTurn, TurnLaws, from as from_of, from_is, heard_turn}
 use Rattle.mirrored_nets.proofs.WholeTurns.{beside_so}
-use Rattle.call_readings.specs.Reads.{FailsLast, IsUncut, Reads, ReadsTurn, came_to, failing_call, is_halted, read_fates}
+use Rattle.call_readings.specs.Reads.{FailsLast, IsUncut, ReadsTurn, came_to, failing_call, is_halted, read_fates}
 use Rattle.call_readings.specs.declared.became.Became.{Became}
 use Rattle.call_readings.specs.declared.became.Became.TheVariants as becomes
 use Rattle.reading_laws.specs.TurnsAreRead.{IsTurnHere, TurnsAreRead}
 use Rattle.reading_laws.proofs.ReadAppends.{halting_none_behind}
-use Rattle.reading_laws.proofs.ReadCalls.{AppendDone, anew_same, append_is, armed_here, call_parts, none_refused as none_refused_in, refusals_so}
+use Rattle.reading_laws.proofs.ReadCalls.{anew_same, append_is, armed_here, call_parts, none_refused as none_refused_in, refusals_so}
 use Rattle.reading_laws.proofs.ReadEnds.{EndsAnew, steps_end}
-use Rattle.reading_laws.proofs.ReadStops.{CallParts, ReadsStop, anew_here, stop_read}
+use Rattle.reading_laws.proofs.ReadStops.{CallParts, anew_here, stop_read}
 
 cancelled : (xs ys zs : List Made) → xs ++ ys ≡ xs ++ zs → ys ≡ zs
 cancelled xs ys zs e = sym (drop-append_seam xs ys) ∙ ap (drop (length xs)) e ∙ drop-append_seam xs zs

@@ -6,13 +6,11 @@ use Rattle.fated_walks.specs.Fated.{IsBeyond, StartsWith}
 use Rattle.site_model.specs.Told.{Made}
 use Rattle.mirrored_nets.specs.Fates.{AllDone, AreAsked, anew_of, fates_in}
 use Rattle.mirrored_nets.specs.TookAnew.{IsAskedWhole}
-use Rattle.mirrored_nets.specs.declared.judged.Armed.{Armed}
 use Rattle.mirrored_nets.proofs.DoneCalls.{all_drop}
 use Rattle.mirrored_nets.proofs.StruckRows.{starts_none, yes_fates}
-use Rattle.call_readings.specs.Reads.{Reads, led_by, named, read_fates}
-use Rattle.call_readings.specs.declared.became.Became.{Became}
+use Rattle.call_readings.specs.Reads.{led_by, named, read_fates}
 use Rattle.call_readings.specs.declared.became.Became.TheVariants as becomes
-use Rattle.reading_laws.specs.ReadingsAsk.{IsWhatCame, ReadingsAsk}
+use Rattle.reading_laws.specs.ReadingsAsk.{ReadingsAsk}
 
 -- the fates that are named are those
 starts_named : (fates : List Bool) → StartsWith fates (named fates)

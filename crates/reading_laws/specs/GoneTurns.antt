@@ -1,6 +1,5 @@
 -- What a turn did of a node in a net that mirrors a world, in which the node went down.
 use Rattle.std.specs.Prelude.{ℕ, List, ◌++◌, ◌+◌, ◌≡◌, ◌≤◌, Bool, Option, Some}
-use Rattle.at_base.specs.declared.outs.Effect.{Effect}
 use Rattle.at_base.specs.declared.record.Record.{Record}
 use Rattle.at_model.specs.World.{Input, World, WorldEvent, Turn, nth}
 use Rattle.memory_net.specs.Mails.{Mail}
