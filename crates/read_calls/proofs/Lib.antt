@@ -1,0 +1,4 @@
+pub mod EntryRows
+pub mod NamedFates
+pub mod OneReading
+pub mod PartsOfCalls

@@ -1,0 +1,3 @@
+pub mod AskTells
+pub mod CutTells
+pub mod StruckTells
