@@ -3,7 +3,7 @@
 ghost use Rattle.std.specs.Prelude.{ℕ, List, ◌+◌, ◌≡◌, ◌≤◌, ◌-◌, ◌<◌, ◌⊎◌, Bool, Option, Some, false, length, nat_eq};
 ghost use Rattle.site_memory.specs.Entries.{call_of, mades};
 ghost use Rattle.site_memory.specs.ToldCalls.{AreArmed};
-ghost use Rattle.torn_appends.specs.TornAppends.{stands_behind};
+ghost use Rattle.torn_appends.specs.TornAppends.{gate_stands, stands_behind};
 ghost use Rattle.mirrored_nets.specs.Kept.{is_write, kept_at, writes_at};
 ghost use Rattle.mirrored_nets.specs.Took.{IsKept, StopsBefore, StopsInStep};
 ghost use Rattle.mirrored_nets.specs.TookAnew.{before_anew};
@@ -74,7 +74,7 @@ fn kept_at(calls: &[Entry], k: usize, choice: Choice) -> usize
 
 /// Whether a stop leaves a gate raised whose write isn't synced.
 fn gate_stands(choice: Choice) -> bool
-    ensures { result ≡ Rattle.torn_appends.specs.TornAppends.gate_stands choice }
+    ensures { result ≡ gate_stands choice }
 {
     match choice {
         Choice::Keep => true,
