@@ -1,10 +1,10 @@
 //! The listener of a node, the connections that are read aside, and the one that is served.
 
-ghost use Rattle.std.specs.Prelude.{◌≡◌, ◌≤◌, ◌<◌, ◌+◌, ◌++◌, ◌^◌, None, Some, IfErr, IfOk, IfSome, IsErr, OnErr, OnOk, drop, length, take};
+ghost use Rattle.std.specs.Prelude.{[], ◌≡◌, ◌≤◌, ◌<◌, ◌+◌, ◌++◌, ◌^◌, None, Some, IfErr, IfOk, IfSome, IsErr, OnErr, OnOk, drop, length, take};
 ghost use Rattle.std.specs.Io.{ReadsAtMost, WritesAtMost};
 ghost use Rattle.std.specs.IoError.{raw_os_error};
 ghost use Rattle.system_calls.specs.Calls.{Number};
-ghost use Rattle.atx_sites.specs.Arrivals.{ConnectionCame, Gives, HasCome, HaveCome, Keeps, KeepsOn, ServedCame};
+ghost use Rattle.atx_sites.specs.Arrivals.{Bounded, ConnectionCame, Gives, HasCome, HaveCome, Keeps, KeepsOn, ServedCame};
 ghost use Rattle.atx_sites.specs.LinkCalls.{IfListens, Later, Looks, Pauses, Polls, Sends, number_at};
 ghost use Rattle.atx_sites.specs.Failures.{Ends};
 ghost use Rattle.atx_sites.specs.declared.troubles.Step.TheVariants as steps;
@@ -44,7 +44,8 @@ pub struct Connection<L, C> {
 
 impl<L: Drop, C: AsRawFd + Drop> Connection<L, C> {
     pub(crate) fn new(alloc: Global) -> Connection<L, C>
-        ensures { (result.listener ≡ None) × (result.served ≡ None) }
+        ensures shut { (result.listener ≡ None) × (result.served ≡ None) }
+        ensures aside { result.waiting.arriving.items ≡ [] }
     {
         Connection {
             alloc,
@@ -73,6 +74,7 @@ pub(crate) fn listen<S: System>(
     ensures calls { IfListens address.now result (number_at S.Listener.raw_fd connection.new.listener) (S.calls system.old) (S.calls system.new) }
     ensures came { ConnectionCame S.Stream.raw_fd S.Listener.raw_fd (S.calls system.new) connection.new }
     ensures fault { IfErr result (λ e. Ends None steps.Listen e (S.calls system.new)) }
+    ensures aside { connection.new.waiting.arriving.items ≡ [] }
 {
     connection.listener = None;
     connection.served = None;
@@ -114,6 +116,7 @@ fn go_on<S: System>(
     ensures came { HaveCome S.Stream.raw_fd (S.Listener.raw_fd listener.now) (S.calls system.old) waiting.old.arriving.items → HaveCome S.Stream.raw_fd (S.Listener.raw_fd listener.now) (S.calls system.new) waiting.new.arriving.items }
     ensures later { Later (S.calls system.old) (S.calls system.new) }
     ensures fault { IfErr result (λ e. Ends (S.Listener.raw_fd listener.now) steps.Accept e (S.calls system.new)) }
+    ensures bounded { Bounded waiting.old.arriving.items → Bounded waiting.new.arriving.items }
 {
     let Some((first, others)) = found.split_first() else {
         return Ok(());
@@ -175,6 +178,7 @@ fn wait_once<S: System>(
     ensures came { HaveCome S.Stream.raw_fd (S.Listener.raw_fd listener.now) (S.calls system.old) waiting.old.arriving.items → HaveCome S.Stream.raw_fd (S.Listener.raw_fd listener.now) (S.calls system.new) waiting.new.arriving.items }
     ensures later { Later (S.calls system.old) (S.calls system.new) }
     ensures fault { IfErr result (λ e. Ends (S.Listener.raw_fd listener.now) steps.Accept e (S.calls system.new)) }
+    ensures bounded { Bounded waiting.old.arriving.items → Bounded waiting.new.arriving.items }
 {
     let is_ready = waiting.has_ready(now);
     let mut asks = Vec::new(waiting.alloc());
@@ -266,6 +270,7 @@ fn next<S: System>(
     ensures came { (listener : Number) → HaveCome S.Stream.raw_fd listener (S.calls system.old) waiting.old.arriving.items → HaveCome S.Stream.raw_fd listener (S.calls system.new) waiting.new.arriving.items }
     ensures taken { (listener : Number) → HaveCome S.Stream.raw_fd listener (S.calls system.old) waiting.old.arriving.items → IfSome result (HasCome S.Stream.raw_fd listener (S.calls system.new)) }
     ensures later { Later (S.calls system.old) (S.calls system.new) }
+    ensures bounded { Bounded waiting.old.arriving.items → Bounded waiting.new.arriving.items }
 {
     let Some(ready) = waiting.ready(now) else {
         return None;
@@ -290,6 +295,7 @@ fn wait<S: System>(
     ensures later { Later (S.calls system.old) (S.calls system.new) }
     ensures taken { HaveCome S.Stream.raw_fd (S.Listener.raw_fd listener.now) (S.calls system.old) waiting.old.arriving.items → IfOk result (HasCome S.Stream.raw_fd (S.Listener.raw_fd listener.now) (S.calls system.new)) }
     ensures fault { IfErr result (λ e. Ends (S.Listener.raw_fd listener.now) steps.Accept e (S.calls system.new)) }
+    ensures bounded { Bounded waiting.old.arriving.items → Bounded waiting.new.arriving.items }
 {
     let mut until = None;
     'waits: for _ in 0..u64::MAX {
@@ -322,6 +328,7 @@ pub(crate) fn take<S: System>(
     ensures shut { connection.old.listener ≡ None → IsErr result }
     ensures came { ConnectionCame S.Stream.raw_fd S.Listener.raw_fd (S.calls system.old) connection.old → ConnectionCame S.Stream.raw_fd S.Listener.raw_fd (S.calls system.new) connection.new }
     ensures fault { IfErr result (λ e. Ends (number_at S.Listener.raw_fd connection.old.listener) steps.Accept e (S.calls system.new)) }
+    ensures bounded { Bounded connection.old.waiting.arriving.items → Bounded connection.new.waiting.arriving.items }
 {
     close(system, connection, departures);
     let Some(listener) = &connection.listener else {

@@ -36,7 +36,23 @@ pub waits-preserved : goal.waits-preserved
 waits-preserved g c = (
   λ h. c.next.ensures.came _ (c.wait_once.ensures.came (have_still g.S.Stream.AsRawFd.raw_fd _ _ _ _ (c.waits.invariant.0 h) c.advance.ensures.later)),
   later_still _ _ _ (later_still _ _ _ (later_still _ _ _ c.waits.invariant.1 c.advance.ensures.later) c.wait_once.ensures.later) c.next.ensures.later,
+  (λ h. c.next.ensures.bounded (c.wait_once.ensures.bounded (c.waits.invariant.2 h))),
 )
 
 pub returns-in-Err-clause-fault : goal.returns-in-Err-clause-fault
 returns-in-Err-clause-fault g c = c.in-Err.ensures.fault _
+
+pub returns-in-Err-clause-bounded : goal.returns-in-Err-clause-bounded
+returns-in-Err-clause-bounded g c = c.waits.invariant.2
+
+pub returns-in-Err-wait_once-clause-bounded : goal.returns-in-Err-wait_once-clause-bounded
+returns-in-Err-wait_once-clause-bounded g c = λ h. c.wait_once.ensures.bounded (c.waits.invariant.2 h)
+
+pub returns-in-Some-clause-bounded : goal.returns-in-Some-clause-bounded
+returns-in-Some-clause-bounded g c = λ h. c.next.ensures.bounded (c.wait_once.ensures.bounded (c.waits.invariant.2 h))
+
+pub returns-then-is_over-clause-bounded : goal.returns-then-is_over-clause-bounded
+returns-then-is_over-clause-bounded g c = λ h. c.next.ensures.bounded (c.wait_once.ensures.bounded (c.waits.invariant.2 h))
+
+pub returns-clause-bounded : goal.returns-clause-bounded
+returns-clause-bounded g c = c.waits.invariant.2
