@@ -7,6 +7,7 @@ ghost use Rattle.site_model.specs.Told.{Files as Files_told, Is, file_of};
 ghost use Rattle.site_model.specs.Told.Call.{Post, Send};
 ghost use Rattle.site_model.specs.declared.site.Taken.TheVariants.{Opened};
 ghost use Rattle.atx_sites.specs.Arrivals.{Bounded, Gives, KeepsOn};
+ghost use Rattle.atx_sites.specs.Departures.{Within};
 ghost use Rattle.atx_sites.specs.Resends.{PostsOrHolds};
 ghost use Rattle.atx_sites.specs.Disks.{Tallied, file_at, other_at};
 ghost use Rattle.atx_sites.specs.FileCalls.{Raises, Reads, Sized, Syncs, Writes};
@@ -74,7 +75,7 @@ impl<S: System + Drop> NodeSite<S> {
         ensures shut { (result.connection.listener ≡ None) × (result.connection.served ≡ None) }
         ensures names { result.attached.names ≡ [] }
         ensures trouble { result.trouble ≡ None }
-        ensures aside { result.connection.waiting.arriving.items ≡ [] }
+        ensures aside { (result.connection.waiting.arriving.items ≡ []) × (result.departures.leaving.items ≡ []) }
     {
         NodeSite {
             alloc,
@@ -127,7 +128,11 @@ impl<S: System + Drop> NodeSite<S> {
         ensures aside { self.new.connection.waiting ≡ self.old.connection.waiting }
     {
         connection::close(&mut self.system, &mut self.connection, &mut self.departures);
-        let _ = connection::leave(&mut self.system, self.alloc, &mut self.departures);
+        let _ = connection::leave(
+            &mut self.system,
+            &mut self.connection.asks,
+            &mut self.departures,
+        );
     }
 }
 
@@ -146,13 +151,19 @@ impl<S: System + Drop> Site for NodeSite<S> {
         ensures call { Attaches journal.now listen.now result (told_with self.old.disk self.old.accept self.old.receive self.old.link self.old.taken self.old.attached.names) (told_with self.new.disk self.new.accept self.new.receive self.new.link self.new.taken self.new.attached.names) }
         ensures told { TellsOne None result self.old.trouble self.new.trouble (S.calls self.new.system) }
         ensures bounded { Bounded self.old.connection.waiting.arriving.items → Bounded self.new.connection.waiting.arriving.items }
+        ensures leaving { self.new.departures.leaving.items ≡ self.old.departures.leaving.items }
     {
         self.journal = kept(self.alloc, journal);
         self.listen = kept(self.alloc, listen);
         if disk::open(&mut self.system, &mut self.disk, &mut self.trouble, journal).is_err() {
             return Err(AttachFailed::Disk);
         }
-        let listening = connection::listen(&mut self.system, &mut self.connection, listen);
+        let listening = connection::listen(
+            &mut self.system,
+            &mut self.connection,
+            &mut self.departures,
+            listen,
+        );
         match noted(&mut self.accept, &mut self.trouble, Step::Listen, listening) {
             Ok(()) => {
                 self.attached = self.attached.and(&Given { journal, listen });
@@ -170,6 +181,7 @@ impl<S: System + Drop> Site for NodeSite<S> {
         ensures call { Looked result (told_with self.old.disk self.old.accept self.old.receive self.old.link self.old.taken self.old.attached.names) (told_with self.new.disk self.new.accept self.new.receive self.new.link self.new.taken self.new.attached.names) }
         ensures told { Tells (number_of S.File.raw_fd (file_at file self.old.disk)) (steps.Size file) result self.old.trouble self.new.trouble (S.calls self.new.system) }
         ensures aside { self.new.connection ≡ self.old.connection }
+        ensures leaving { self.new.departures.leaving.items ≡ self.old.departures.leaving.items }
     {
         disk::size(&mut self.system, &mut self.disk, &mut self.trouble, file)
     }
@@ -185,6 +197,7 @@ impl<S: System + Drop> Site for NodeSite<S> {
         ensures call { Looked result (told_with self.old.disk self.old.accept self.old.receive self.old.link self.old.taken self.old.attached.names) (told_with self.new.disk self.new.accept self.new.receive self.new.link self.new.taken self.new.attached.names) }
         ensures told { Tells (number_of S.File.raw_fd (file_at file self.old.disk)) (steps.Read file) result self.old.trouble self.new.trouble (S.calls self.new.system) }
         ensures aside { self.new.connection ≡ self.old.connection }
+        ensures leaving { self.new.departures.leaving.items ≡ self.old.departures.leaving.items }
     {
         disk::read(
             &mut self.system,
@@ -204,6 +217,7 @@ impl<S: System + Drop> Site for NodeSite<S> {
         ensures call { Wrote file at bytes.now result (told_with self.old.disk self.old.accept self.old.receive self.old.link self.old.taken self.old.attached.names) (told_with self.new.disk self.new.accept self.new.receive self.new.link self.new.taken self.new.attached.names) }
         ensures told { Tells (number_of S.File.raw_fd (file_at file self.old.disk)) (steps.Write file) result self.old.trouble self.new.trouble (S.calls self.new.system) }
         ensures aside { self.new.connection ≡ self.old.connection }
+        ensures leaving { self.new.departures.leaving.items ≡ self.old.departures.leaving.items }
     {
         disk::write_at(
             &mut self.system,
@@ -225,6 +239,7 @@ impl<S: System + Drop> Site for NodeSite<S> {
         ensures call { Synced file result (told_with self.old.disk self.old.accept self.old.receive self.old.link self.old.taken self.old.attached.names) (told_with self.new.disk self.new.accept self.new.receive self.new.link self.new.taken self.new.attached.names) }
         ensures told { Tells (number_of S.File.raw_fd (file_at file self.old.disk)) (steps.Sync file) result self.old.trouble self.new.trouble (S.calls self.new.system) }
         ensures aside { self.new.connection ≡ self.old.connection }
+        ensures leaving { self.new.departures.leaving.items ≡ self.old.departures.leaving.items }
     {
         disk::sync(&mut self.system, &mut self.disk, &mut self.trouble, file)
     }
@@ -238,6 +253,7 @@ impl<S: System + Drop> Site for NodeSite<S> {
         ensures call { Raised file at result (told_with self.old.disk self.old.accept self.old.receive self.old.link self.old.taken self.old.attached.names) (told_with self.new.disk self.new.accept self.new.receive self.new.link self.new.taken self.new.attached.names) }
         ensures told { Tells (number_of S.File.raw_fd (file_at file self.old.disk)) (steps.Gate file) result self.old.trouble self.new.trouble (S.calls self.new.system) }
         ensures aside { self.new.connection ≡ self.old.connection }
+        ensures leaving { self.new.departures.leaving.items ≡ self.old.departures.leaving.items }
     {
         disk::raise_gate(
             &mut self.system,
@@ -257,6 +273,7 @@ impl<S: System + Drop> Site for NodeSite<S> {
         ensures call { Takes result (told_with self.old.disk self.old.accept self.old.receive self.old.link self.old.taken self.old.attached.names) (told_with self.new.disk self.new.accept self.new.receive self.new.link self.new.taken self.new.attached.names) }
         ensures told { Tells (number_at S.Listener.raw_fd self.old.connection.listener) steps.Accept result self.old.trouble self.new.trouble (S.calls self.new.system) }
         ensures bounded { Bounded self.old.connection.waiting.arriving.items → Bounded self.new.connection.waiting.arriving.items }
+        ensures within { Within self.old.departures.leaving.items → Within self.new.departures.leaving.items }
     {
         let opened = connection::take(
             &mut self.system,
@@ -280,6 +297,7 @@ impl<S: System + Drop> Site for NodeSite<S> {
         ensures gives { Gives buf.new result self.old.connection.served self.new.connection.served }
         ensures call { Received result buf.new (told_with self.old.disk self.old.accept self.old.receive self.old.link self.old.taken self.old.attached.names) (told_with self.new.disk self.new.accept self.new.receive self.new.link self.new.taken self.new.attached.names) }
         ensures aside { self.new.connection.waiting ≡ self.old.connection.waiting }
+        ensures leaving { self.new.departures.leaving.items ≡ self.old.departures.leaving.items }
     {
         counted(
             &mut self.receive,
@@ -294,6 +312,7 @@ impl<S: System + Drop> Site for NodeSite<S> {
         ensures kept { KeepsOn S.Stream.raw_fd bytes.now result self.old.connection.served self.new.connection.served (S.calls self.old.system) (S.calls self.new.system) }
         ensures call { Gave (Send bytes.now) result (told_with self.old.disk self.old.accept self.old.receive self.old.link self.old.taken self.old.attached.names) (told_with self.new.disk self.new.accept self.new.receive self.new.link self.new.taken self.new.attached.names) }
         ensures aside { self.new.connection.waiting ≡ self.old.connection.waiting }
+        ensures leaving { self.new.departures.leaving.items ≡ self.old.departures.leaving.items }
     {
         counted(
             &mut self.link,
@@ -306,6 +325,7 @@ impl<S: System + Drop> Site for NodeSite<S> {
         ensures same { (self.new.connection.listener ≡ self.old.connection.listener) × (self.new.disk ≡ self.old.disk) }
         ensures call { Closes (told_with self.old.disk self.old.accept self.old.receive self.old.link self.old.taken self.old.attached.names) (told_with self.new.disk self.new.accept self.new.receive self.new.link self.new.taken self.new.attached.names) }
         ensures aside { self.new.connection.waiting ≡ self.old.connection.waiting }
+        ensures within { Within self.old.departures.leaving.items → Within self.new.departures.leaving.items }
     {
         connection::close(&mut self.system, &mut self.connection, &mut self.departures);
     }
@@ -317,6 +337,7 @@ impl<S: System + Drop> Site for NodeSite<S> {
         ensures tallied { Tallied self.old.link self.new.link result }
         ensures call { Gave (Post host.now port bytes.now) result (told_with self.old.disk self.old.accept self.old.receive self.old.link self.old.taken self.old.attached.names) (told_with self.new.disk self.new.accept self.new.receive self.new.link self.new.taken self.new.attached.names) }
         ensures aside { self.new.connection ≡ self.old.connection }
+        ensures within { Within self.old.departures.leaving.items → Within self.new.departures.leaving.items }
     {
         let request = connection::request(&self.connection);
         if is_held(

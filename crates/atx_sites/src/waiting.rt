@@ -20,7 +20,7 @@ use std::time::Duration;
 use system_calls::system::System;
 
 /// The most connections that are read aside.
-const MOST: usize = 1024;
+pub(crate) const MOST: usize = 1024;
 
 /// The most bytes that are read aside of all connections.
 const MOST_BYTES: usize = 67_108_864;
@@ -77,12 +77,13 @@ impl<C: AsRawFd + Drop> Waiting<C> {
         }
     }
 
-    /// Closes all of them, and makes room for the fields of a head.
+    /// Closes all of them, and makes room for as many as there may be and for the fields of a head.
     pub(crate) fn begin(&mut self) -> Result<(), AllocError>
         ensures { self.new.arriving.items ≡ [] }
     {
         self.arriving.clear();
         self.pause = None;
+        self.arriving.reserve(MOST)?;
         self.places.resize(FIELDS, EMPTY_HEADER_SPAN)
     }
 
