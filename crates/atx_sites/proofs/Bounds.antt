@@ -4,12 +4,15 @@ use Rattle.std.specs.List.{remove, sum_by}
 use lib.ListN.{set}
 use Rattle.std.proofs.lemmas.List.{length-set}
 use Rattle.std.proofs.lemmas.List.Edits.{length-remove}
-use Rattle.std.proofs.lemmas.List.Elements.{All-append, All-drop, All-push, All-set, All-take}
+use Rattle.std.proofs.lemmas.List.Elements.{All-append, All-drop, All-nil, All-push, All-set, All-take}
 use Rattle.std.proofs.lemmas.List.Sums.{sum_by-append, sum_by-remove, sum_by-set}
 use Rattle.atx_sites.specs.Arrivals.{Bounded, size_of}
 use Rattle.atx_sites.specs.declared.arriving.Arriving.{Arriving}
 
 module _ {C : Type 0} where
+  pub bounded_none : Bounded {C = C} []
+  bounded_none = (omega arith, omega arith, All-nil (λ a. size_of a ≤ 131_072))
+
   pub bounded_removed : (items : List (Arriving C)) (i : ℕ) (d : Arriving C) → i < length items → Bounded items → Bounded (remove items i)
   bounded_removed items i d h (count, bytes, each) = (
     omega (arith, count, length-remove items i h),

@@ -2,6 +2,7 @@ pub mod Afterwards
 pub mod Attachings
 pub mod Bounds
 pub mod Comings
+pub mod DepartureBounds
 pub mod DepartureLists
 pub mod FilePieces
 pub mod Leavings

@@ -1,5 +1,6 @@
 -- Which calls of the system are made on connections with bytes that leave.
-use Rattle.std.specs.Prelude.{ℕ, Bool, true, false, List, Option, Vec, Some, None, Result, Ok, Err, IsErr, [], ◌∷◌, ◌++◌, ◌≡◌, ◌⊎◌, ◌+◌, ◌≤◌, ◌<◌, length, drop, is_err, not, slice_index_or, slice_set, remove, Contains}
+use Rattle.std.specs.Prelude.{ℕ, Bool, true, false, List, Option, Vec, Some, None, Result, Ok, Err, IsErr, [], ◌∷◌, ◌++◌, ◌≡◌, ◌⊎◌, ◌+◌, ◌≤◌, ◌<◌, length, drop, filter, is_err, not, slice_get, slice_index_or, slice_set, remove, Contains}
+use Rattle.std.specs.List.{sum_by}
 use Rattle.std.specs.declared.io.Error.{Error}
 use Rattle.std.specs.declared.net.SocketAddr.{SocketAddr}
 use Rattle.std.specs.declared.time.Duration.{Duration}
@@ -82,6 +83,35 @@ is_lost outgoing = is_loss outgoing.stage
 pub data IsPart {X : Type 0} (all : List X) : List X → Type 0 where
   none : {part : List X} → part ≡ all → IsPart all part
   less : {mid part : List X} (i : ℕ) → IsPart all mid → part ≡ remove mid i → IsPart all part
+
+-- the first address of its host, by which the host is known; an answer has none
+abbrev pub host_of : {C : Type 0} → Outgoing C → Option SocketAddr
+host_of outgoing = slice_get outgoing.addresses.items 0
+
+abbrev pub weight : {C : Type 0} → Outgoing C → ℕ
+weight outgoing = length outgoing.bytes.items
+
+-- the test passes no host but that one
+abbrev pub Tests : Option SocketAddr → (Option SocketAddr → Bool) → Type 0
+Tests host test = (h : Option SocketAddr) → test h ≡ true → h ≡ host
+
+-- how many go to a host that the test passes
+abbrev pub number_to : {C : Type 0} → (Option SocketAddr → Bool) → List (Outgoing C) → ℕ
+number_to test leaving = length (filter (λ o. test (host_of o)) leaving)
+
+-- they are 1,024 at most, with 16,777,216 bytes in all, and 64 at most go to one host
+abbrev pub Within : {C : Type 0} → List (Outgoing C) → Type 0
+Within leaving =
+    (length leaving ≤ 1_024) × (sum_by weight leaving ≤ 16_777_216)
+    × ((host : SocketAddr) (test : Option SocketAddr → Bool) → Tests (Some host) test → number_to test leaving ≤ 64)
+
+-- where there is room, there is some for one more, with so many bytes
+abbrev pub HasRoom : {C : Type 0} → Bool → ℕ → List (Outgoing C) → Type 0
+HasRoom room bytes leaving = room ≡ true → (length leaving < 1_024) × (sum_by weight leaving + bytes ≤ 16_777_216)
+
+-- and one more may go to that host
+abbrev pub HasShare : {C : Type 0} → Option SocketAddr → Bool → List (Outgoing C) → Type 0
+HasShare host room leaving = room ≡ true → (test : Option SocketAddr → Bool) → Tests host test → number_to test leaving < 64
 
 -- a post's connection was begun, to one of these addresses
 abbrev pub IfBegun : {C : Type 0} → (C → Number) → List SocketAddr → List ℕ → Option (Outgoing C) → Calls → Calls → Type 0

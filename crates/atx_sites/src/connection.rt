@@ -1,18 +1,19 @@
 //! The listener of a node, the connections that are read aside, and the one that is served.
 
-ghost use Rattle.std.specs.Prelude.{◌≡◌, ◌≤◌, ◌<◌, ◌+◌, ◌++◌, ◌^◌, None, Some, IfErr, IfOk, IfSome, IsErr, OnErr, OnOk, drop, length, take};
+ghost use Rattle.std.specs.Prelude.{[], ◌≡◌, ◌≤◌, ◌<◌, ◌+◌, ◌++◌, ◌^◌, None, Some, IfErr, IfOk, IfSome, IsErr, OnErr, OnOk, drop, length, take};
 ghost use Rattle.std.specs.Io.{ReadsAtMost, WritesAtMost};
 ghost use Rattle.std.specs.IoError.{raw_os_error};
 ghost use Rattle.system_calls.specs.Calls.{Number};
-ghost use Rattle.atx_sites.specs.Arrivals.{ConnectionCame, Gives, HasCome, HaveCome, Keeps, KeepsOn, ServedCame};
+ghost use Rattle.atx_sites.specs.Arrivals.{Bounded, ConnectionCame, Gives, HasCome, HaveCome, Keeps, KeepsOn, ServedCame};
 ghost use Rattle.atx_sites.specs.LinkCalls.{IfListens, Later, Looks, Pauses, Polls, Sends, number_at};
+ghost use Rattle.atx_sites.specs.Departures.{Within};
 ghost use Rattle.atx_sites.specs.Failures.{Ends};
 ghost use Rattle.atx_sites.specs.declared.troubles.Step.TheVariants as steps;
 
 use crate::arriving::{Arriving, Rest, read_on};
 use crate::deadlines::{earlier, millis_until};
 use crate::departures::{self, Departures};
-use crate::waiting::{Waiting, accept_all, read_found};
+use crate::waiting::{self, Waiting, accept_all, read_found};
 use libc::types::pollfd;
 use std::alloc::{AllocError, Global};
 use std::io::{self, ErrorKind};
@@ -40,17 +41,21 @@ pub struct Connection<L, C> {
     pub(crate) listener: Option<L>,
     pub(crate) served: Option<Served<C>>,
     waiting: Waiting<C>,
+    /// What the system is to wait for; it keeps its room.
+    pub(crate) asks: Vec<pollfd>,
 }
 
 impl<L: Drop, C: AsRawFd + Drop> Connection<L, C> {
     pub(crate) fn new(alloc: Global) -> Connection<L, C>
-        ensures { (result.listener ≡ None) × (result.served ≡ None) }
+        ensures shut { (result.listener ≡ None) × (result.served ≡ None) }
+        ensures aside { result.waiting.arriving.items ≡ [] }
     {
         Connection {
             alloc,
             listener: None,
             served: None,
             waiting: Waiting::new(alloc),
+            asks: Vec::new(alloc),
         }
     }
 }
@@ -63,20 +68,41 @@ pub(crate) fn request<L, C>(connection: &Connection<L, C>) -> &[u8] {
     }
 }
 
+/// The most that the system is to wait for at once: the listener, those that are read aside, and those that leave.
+const MOST_ASKS: usize = 1 + waiting::MOST + departures::MOST;
+
+/// Closes what is read aside, and makes room for as much as ever waits or leaves: none of these lists grows later.
+fn begin<L, C: AsRawFd + Drop>(
+    connection: &mut Connection<L, C>,
+    departures: &mut Departures<C>,
+) -> Result<(), AllocError>
+    ensures aside { connection.new.waiting.arriving.items ≡ [] }
+    ensures same { (connection.new.listener ≡ connection.old.listener) × (connection.new.served ≡ connection.old.served) }
+    ensures leaving { (departures.new.leaving.items ≡ departures.old.leaving.items) × (departures.new.lost ≡ departures.old.lost) }
+{
+    connection.waiting.begin()?;
+    connection.asks.clear();
+    connection.asks.reserve(MOST_ASKS)?;
+    departures.begin()
+}
+
 /// Listens at an address, in place of the one before. What was open is closed.
 #[tactic(auto, using(crate::proofs::Tellings::ended_listen))]
 pub(crate) fn listen<S: System>(
     system: &mut S,
     connection: &mut Connection<S::Listener, S::Stream>,
+    departures: &mut Departures<S::Stream>,
     address: &str,
 ) -> io::Result<()>
     ensures calls { IfListens address.now result (number_at S.Listener.raw_fd connection.new.listener) (S.calls system.old) (S.calls system.new) }
     ensures came { ConnectionCame S.Stream.raw_fd S.Listener.raw_fd (S.calls system.new) connection.new }
     ensures fault { IfErr result (λ e. Ends None steps.Listen e (S.calls system.new)) }
+    ensures aside { connection.new.waiting.arriving.items ≡ [] }
+    ensures leaving { (departures.new.leaving.items ≡ departures.old.leaving.items) × (departures.new.lost ≡ departures.old.lost) }
 {
     connection.listener = None;
     connection.served = None;
-    let Ok(()) = connection.waiting.begin() else {
+    let Ok(()) = begin(connection, departures) else {
         return Err(io::Error::new(ErrorKind::OutOfMemory, "there is no memory"));
     };
     match system.listen(address) {
@@ -96,6 +122,7 @@ fn asked_of<L: AsRawFd, C: AsRawFd + Drop>(
     departures: &Departures<C>,
     asks: &mut Vec<pollfd>,
 ) -> Result<usize, AllocError> {
+    asks.clear();
     waiting.asks(listener.as_raw_fd(), asks)?;
     let arriving = asks.len();
     departures.asks(asks)?;
@@ -114,6 +141,7 @@ fn go_on<S: System>(
     ensures came { HaveCome S.Stream.raw_fd (S.Listener.raw_fd listener.now) (S.calls system.old) waiting.old.arriving.items → HaveCome S.Stream.raw_fd (S.Listener.raw_fd listener.now) (S.calls system.new) waiting.new.arriving.items }
     ensures later { Later (S.calls system.old) (S.calls system.new) }
     ensures fault { IfErr result (λ e. Ends (S.Listener.raw_fd listener.now) steps.Accept e (S.calls system.new)) }
+    ensures bounded { Bounded waiting.old.arriving.items → Bounded waiting.new.arriving.items }
 {
     let Some((first, others)) = found.split_first() else {
         return Ok(());
@@ -169,16 +197,17 @@ fn wait_once<S: System>(
     waiting: &mut Waiting<S::Stream>,
     departures: &Departures<S::Stream>,
     listener: &S::Listener,
+    asks: &mut Vec<pollfd>,
     now: Duration,
     until: Option<Duration>,
 ) -> io::Result<()>
     ensures came { HaveCome S.Stream.raw_fd (S.Listener.raw_fd listener.now) (S.calls system.old) waiting.old.arriving.items → HaveCome S.Stream.raw_fd (S.Listener.raw_fd listener.now) (S.calls system.new) waiting.new.arriving.items }
     ensures later { Later (S.calls system.old) (S.calls system.new) }
     ensures fault { IfErr result (λ e. Ends (S.Listener.raw_fd listener.now) steps.Accept e (S.calls system.new)) }
+    ensures bounded { Bounded waiting.old.arriving.items → Bounded waiting.new.arriving.items }
 {
     let is_ready = waiting.has_ready(now);
-    let mut asks = Vec::new(waiting.alloc());
-    let Ok(arriving) = asked_of(listener, waiting, departures, &mut asks) else {
+    let Ok(arriving) = asked_of(listener, waiting, departures, asks) else {
         pause_unless(system, is_ready);
         return Ok(());
     };
@@ -204,6 +233,7 @@ fn advance<S: System>(
 ) -> io::Result<Duration>
     ensures later { Later (S.calls system.old) (S.calls system.new) }
     ensures fault { (listener : Number) → IfErr result (λ e. Ends listener steps.Accept e (S.calls system.new)) }
+    ensures within { Within departures.old.leaving.items → Within departures.new.leaving.items }
 {
     match system.monotonic() {
         Ok(now) => {
@@ -248,6 +278,7 @@ fn refuse<S: System>(
     arriving: Arriving<S::Stream>,
 )
     ensures later { Later (S.calls system.old) (S.calls system.new) }
+    ensures within { Within departures.old.leaving.items → Within departures.new.leaving.items }
 {
     let Arriving { stream, .. } = arriving;
     if let Ok(bytes) = Vec::from_slice(alloc, FORBIDDEN) {
@@ -266,6 +297,8 @@ fn next<S: System>(
     ensures came { (listener : Number) → HaveCome S.Stream.raw_fd listener (S.calls system.old) waiting.old.arriving.items → HaveCome S.Stream.raw_fd listener (S.calls system.new) waiting.new.arriving.items }
     ensures taken { (listener : Number) → HaveCome S.Stream.raw_fd listener (S.calls system.old) waiting.old.arriving.items → IfSome result (HasCome S.Stream.raw_fd listener (S.calls system.new)) }
     ensures later { Later (S.calls system.old) (S.calls system.new) }
+    ensures bounded { Bounded waiting.old.arriving.items → Bounded waiting.new.arriving.items }
+    ensures within { Within departures.old.leaving.items → Within departures.new.leaving.items }
 {
     let Some(ready) = waiting.ready(now) else {
         return None;
@@ -284,12 +317,15 @@ fn wait<S: System>(
     waiting: &mut Waiting<S::Stream>,
     departures: &mut Departures<S::Stream>,
     listener: &S::Listener,
+    asks: &mut Vec<pollfd>,
     every: Option<Duration>,
 ) -> io::Result<Arriving<S::Stream>>
     ensures came { HaveCome S.Stream.raw_fd (S.Listener.raw_fd listener.now) (S.calls system.old) waiting.old.arriving.items → HaveCome S.Stream.raw_fd (S.Listener.raw_fd listener.now) (S.calls system.new) waiting.new.arriving.items }
     ensures later { Later (S.calls system.old) (S.calls system.new) }
     ensures taken { HaveCome S.Stream.raw_fd (S.Listener.raw_fd listener.now) (S.calls system.old) waiting.old.arriving.items → IfOk result (HasCome S.Stream.raw_fd (S.Listener.raw_fd listener.now) (S.calls system.new)) }
     ensures fault { IfErr result (λ e. Ends (S.Listener.raw_fd listener.now) steps.Accept e (S.calls system.new)) }
+    ensures bounded { Bounded waiting.old.arriving.items → Bounded waiting.new.arriving.items }
+    ensures within { Within departures.old.leaving.items → Within departures.new.leaving.items }
 {
     let mut until = None;
     'waits: for _ in 0..u64::MAX {
@@ -298,7 +334,7 @@ fn wait<S: System>(
             Err(fault) => return Err(fault),
         };
         until = begun(until, every, now);
-        if let Err(fault) = wait_once(system, waiting, departures, listener, now, until) {
+        if let Err(fault) = wait_once(system, waiting, departures, listener, asks, now, until) {
             return Err(fault);
         }
         if let Some(ready) = next(system, waiting, departures, now) {
@@ -322,12 +358,21 @@ pub(crate) fn take<S: System>(
     ensures shut { connection.old.listener ≡ None → IsErr result }
     ensures came { ConnectionCame S.Stream.raw_fd S.Listener.raw_fd (S.calls system.old) connection.old → ConnectionCame S.Stream.raw_fd S.Listener.raw_fd (S.calls system.new) connection.new }
     ensures fault { IfErr result (λ e. Ends (number_at S.Listener.raw_fd connection.old.listener) steps.Accept e (S.calls system.new)) }
+    ensures bounded { Bounded connection.old.waiting.arriving.items → Bounded connection.new.waiting.arriving.items }
+    ensures within { Within departures.old.leaving.items → Within departures.new.leaving.items }
 {
     close(system, connection, departures);
     let Some(listener) = &connection.listener else {
         return Err(io::Error::new(ErrorKind::NotConnected, "nothing listens"));
     };
-    match wait(system, &mut connection.waiting, departures, listener, every) {
+    match wait(
+        system,
+        &mut connection.waiting,
+        departures,
+        listener,
+        &mut connection.asks,
+        every,
+    ) {
         Ok(arriving) => {
             connection.served = Some(Served {
                 arriving,
@@ -475,6 +520,7 @@ pub(crate) fn send<S: System>(
 /// Hands over a connection, whose answer goes out behind this call. Where some of that was lost, it is closed at once.
 fn end<S: System>(system: &mut S, departures: &mut Departures<S::Stream>, served: Served<S::Stream>)
     ensures later { Later (S.calls system.old) (S.calls system.new) }
+    ensures within { Within departures.old.leaving.items → Within departures.new.leaving.items }
 {
     let Served {
         arriving,
@@ -499,6 +545,7 @@ pub(crate) fn close<S: System>(
     ensures shut { connection.new.served ≡ None }
     ensures same { (connection.new.listener ≡ connection.old.listener) × (connection.new.waiting ≡ connection.old.waiting) }
     ensures later { Later (S.calls system.old) (S.calls system.new) }
+    ensures within { Within departures.old.leaving.items → Within departures.new.leaving.items }
 {
     if let Some(served) = connection.served.take() {
         end(system, departures, served);
@@ -508,12 +555,12 @@ pub(crate) fn close<S: System>(
 /// Waits until something that leaves can go on, or the time of one is over. Want of memory passes.
 fn wait_leaving<S: System>(
     system: &mut S,
-    alloc: Global,
+    asks: &mut Vec<pollfd>,
     departures: &Departures<S::Stream>,
     now: Duration,
 ) {
-    let mut asks = Vec::new(alloc);
-    match departures.asks(&mut asks) {
+    asks.clear();
+    match departures.asks(asks) {
         Ok(()) => look(
             system,
             asks.as_mut_slice(),
@@ -526,7 +573,7 @@ fn wait_leaving<S: System>(
 /// Lets go out what still leaves, each until its own time is over.
 pub(crate) fn leave<S: System>(
     system: &mut S,
-    alloc: Global,
+    asks: &mut Vec<pollfd>,
     departures: &mut Departures<S::Stream>,
 ) -> io::Result<()> {
     for _ in 0..u64::MAX {
@@ -535,7 +582,7 @@ pub(crate) fn leave<S: System>(
         if departures.is_empty() {
             return Ok(());
         }
-        wait_leaving(system, alloc, departures, now);
+        wait_leaving(system, asks, departures, now);
     }
     Ok(())
 }

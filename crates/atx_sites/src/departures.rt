@@ -1,9 +1,11 @@
 //! Connections with bytes that leave: posts, and answers that weren't wholly out.
 
-ghost use Rattle.std.specs.Prelude.{◌≡◌, ◌<◌, ◌+◌, List, Result, IfSome, filter, is_err, length, not};
+ghost use Rattle.std.specs.Prelude.{[], ◌≡◌, ◌<◌, ◌≤◌, ◌+◌, ◌-◌, ◌^◌, Bool, List, Option, Result, IfSome, filter, is_err, length, min, not, true};
+ghost use Rattle.std.specs.List.{sum_by};
 ghost use Rattle.std.specs.declared.io.Error.{Error};
+ghost use Rattle.std.specs.declared.net.SocketAddr.{SocketAddr};
 ghost use Rattle.site_model.specs.Counts.{capped};
-ghost use Rattle.atx_sites.specs.Departures.{Advances, Answers, IfBegun, IsPart, Posts, PostsTo, Starts, WentAt, is_lost, is_over};
+ghost use Rattle.atx_sites.specs.Departures.{Advances, Answers, HasRoom, HasShare, IfBegun, IsPart, Posts, PostsTo, Starts, Tests, WentAt, Within, host_of, is_lost, is_over, number_to, weight};
 ghost use Rattle.atx_sites.specs.Disks.{Tallied};
 ghost use Rattle.atx_sites.specs.declared.outgoing.Outgoing.{Outgoing};
 
@@ -19,7 +21,7 @@ use std::time::Duration;
 use system_calls::system::System;
 
 /// The most connections that leave.
-const MOST: usize = 1024;
+pub(crate) const MOST: usize = 1024;
 
 /// The most of them to one host, known by the first of its addresses.
 const MOST_TO_ONE: usize = 64;
@@ -42,13 +44,22 @@ pub struct Departures<C> {
 
 impl<C: AsRawFd + Drop> Departures<C> {
     /// Nothing leaves.
-    pub(crate) fn new(alloc: Global) -> Departures<C> {
+    pub(crate) fn new(alloc: Global) -> Departures<C>
+        ensures { result.leaving.items ≡ [] }
+    {
         Departures {
             alloc,
             leaving: Vec::new(alloc),
             names: ResolvedNames::new(alloc),
             lost: 0,
         }
+    }
+
+    /// Makes room for as many as may leave.
+    pub(crate) fn begin(&mut self) -> Result<(), AllocError>
+        ensures { (self.new.leaving.items ≡ self.old.leaving.items) × (self.new.lost ≡ self.old.lost) }
+    {
+        self.leaving.reserve(MOST)
     }
 
     /// Whether nothing leaves.
@@ -101,25 +112,31 @@ pub(crate) fn count_one(lost: &mut u64)
 }
 
 /// The bytes of all of them.
-fn bytes_of<C: Drop>(leaving: &[Outgoing<C>]) -> usize {
+fn bytes_of<C: Drop>(leaving: &[Outgoing<C>]) -> usize
+    ensures { result ≡ min (sum_by weight leaving.now) (2 ^ 64 - 1) }
+{
     let mut sum: usize = 0;
-    for outgoing in leaving.iter() {
-        sum = sum.saturating_add(outgoing.bytes.len());
+    'places: for place in 0..leaving.len() {
+        sum = sum.saturating_add(leaving[place].bytes.len());
     }
     sum
 }
 
 /// Whether it goes to that host.
-fn goes_to<C: Drop>(outgoing: &Outgoing<C>, host: Option<SocketAddr>) -> bool {
+fn goes_to<C: Drop>(outgoing: &Outgoing<C>, host: Option<SocketAddr>) -> bool
+    ensures { host_of outgoing.now ≡ host → result ≡ true }
+{
     outgoing.addresses.first().copied() == host
 }
 
 /// How many go to that host.
-fn count_to<C: Drop>(leaving: &[Outgoing<C>], host: Option<SocketAddr>) -> usize {
+fn count_to<C: Drop>(leaving: &[Outgoing<C>], host: Option<SocketAddr>) -> usize
+    ensures { (test : Option SocketAddr → Bool) → Tests host test → number_to test leaving.now ≤ result }
+{
     let mut count: usize = 0;
-    for outgoing in leaving.iter() {
-        if goes_to(outgoing, host) {
-            count = count.saturating_add(1);
+    'places: for place in 0..leaving.len() {
+        if goes_to(&leaving[place], host) {
+            count += 1;
         }
     }
     count
@@ -152,13 +169,14 @@ fn close_ending<C: Drop>(leaving: &mut Vec<Outgoing<C>>, host: Option<SocketAddr
     }
 }
 
-/// Makes room for so many bytes. Whether there is some.
-fn has_room_for<C: Drop>(leaving: &mut Vec<Outgoing<C>>, bytes: usize) -> bool
-    ensures { (first : List (Outgoing C)) → IsPart first leaving.old.items → IsPart first leaving.new.items }
+/// Makes room for one more, with so many bytes. Whether there is some, and memory for it.
+fn has_room<C: Drop>(leaving: &mut Vec<Outgoing<C>>, bytes: usize) -> bool
+    ensures part { (first : List (Outgoing C)) → IsPart first leaving.old.items → IsPart first leaving.new.items }
+    ensures room { HasRoom result bytes leaving.new.items }
 {
-    'rooms: for _ in 0..MOST {
-        if bytes_of(leaving).saturating_add(bytes) <= MOST_BYTES {
-            return true;
+    'rooms: for _ in 0..=MOST {
+        if leaving.len() < MOST && bytes_of(leaving).saturating_add(bytes) <= MOST_BYTES {
+            return leaving.reserve(1).is_ok();
         }
         if !close_ending(leaving, None) {
             return false;
@@ -167,25 +185,28 @@ fn has_room_for<C: Drop>(leaving: &mut Vec<Outgoing<C>>, bytes: usize) -> bool
     false
 }
 
-/// Makes room for one more, with so many bytes. Whether there is some.
-fn has_room<C: Drop>(leaving: &mut Vec<Outgoing<C>>, bytes: usize) -> bool
-    ensures { (first : List (Outgoing C)) → IsPart first leaving.old.items → IsPart first leaving.new.items }
+/// Makes room for one more to a host. Whether there is some.
+fn has_share<C: Drop>(leaving: &mut Vec<Outgoing<C>>, host: Option<SocketAddr>) -> bool
+    ensures part { (first : List (Outgoing C)) → IsPart first leaving.old.items → IsPart first leaving.new.items }
+    ensures room { HasShare host result leaving.new.items }
 {
-    if leaving.len() >= MOST && !close_ending(leaving, None) {
-        return false;
+    if count_to(leaving, host) < MOST_TO_ONE {
+        return true;
     }
-    has_room_for(leaving, bytes)
+    close_ending(leaving, host) && count_to(leaving, host) < MOST_TO_ONE
 }
 
-/// Makes room for one more to a host, with so many bytes. Whether there is some.
+/// Makes room for one more to a host, with so many bytes. Whether there is some, and memory for it.
 fn has_room_to<C: Drop>(
     leaving: &mut Vec<Outgoing<C>>,
     host: Option<SocketAddr>,
     bytes: usize,
 ) -> bool
-    ensures { (first : List (Outgoing C)) → IsPart first leaving.old.items → IsPart first leaving.new.items }
+    ensures part { (first : List (Outgoing C)) → IsPart first leaving.old.items → IsPart first leaving.new.items }
+    ensures room { HasRoom result bytes leaving.new.items }
+    ensures share { HasShare host result leaving.new.items }
 {
-    if count_to(leaving, host) >= MOST_TO_ONE && !close_ending(leaving, host) {
+    if !has_share(leaving, host) {
         return false;
     }
     has_room(leaving, bytes)
@@ -245,7 +266,8 @@ fn post_to<S: System>(
     bytes: Vec<u8>,
     now: Duration,
 ) -> io::Result<()>
-    ensures { PostsTo S.Stream.raw_fd addresses.items bytes.items leaving.old.items (S.calls system.old) result leaving.new.items (S.calls system.new) }
+    ensures posts { PostsTo S.Stream.raw_fd addresses.items bytes.items leaving.old.items (S.calls system.old) result leaving.new.items (S.calls system.new) }
+    ensures within { Within leaving.old.items → Within leaving.new.items }
 {
     if !has_room_to(leaving, addresses.first().copied(), bytes.len()) {
         return Err(ErrorKind::QuotaExceeded.into());
@@ -266,6 +288,7 @@ fn begin_post<S: System>(
 ) -> io::Result<()>
     ensures posts { Posts S.Stream.raw_fd host.now port bytes.now departures.old.leaving.items (S.calls system.old) result departures.new.leaving.items (S.calls system.new) }
     ensures same { departures.new.lost ≡ departures.old.lost }
+    ensures within { Within departures.old.leaving.items → Within departures.new.leaving.items }
 {
     let Ok(addresses) = resolved_names::addresses(system, &mut departures.names, host, port) else {
         return Err(ErrorKind::HostUnreachable.into());
@@ -290,6 +313,7 @@ pub(crate) fn post<S: System>(
 ) -> io::Result<()>
     ensures posts { Posts S.Stream.raw_fd host.now port bytes.now departures.old.leaving.items (S.calls system.old) result departures.new.leaving.items (S.calls system.new) }
     ensures lost { Tallied departures.old.lost departures.new.lost result }
+    ensures within { Within departures.old.leaving.items → Within departures.new.leaving.items }
 {
     let posted = begin_post(system, departures, host, port, bytes);
     if posted.is_err() {
@@ -309,6 +333,7 @@ fn hand_over<S: System>(
 ) -> io::Result<()>
     ensures answers { Answers S.Stream.raw_fd stream bytes done departures.old.leaving.items (S.calls system.old) result departures.new.leaving.items (S.calls system.new) }
     ensures same { departures.new.lost ≡ departures.old.lost }
+    ensures within { Within departures.old.leaving.items → Within departures.new.leaving.items }
 {
     let is_out = is_taken(&bytes, done);
     let Ok(now) = system.monotonic() else {
@@ -330,8 +355,9 @@ pub(crate) fn answer<S: System>(
     bytes: Vec<u8>,
     done: usize,
 )
-    ensures { (result : Result (Unit {0}) Error) × Answers S.Stream.raw_fd stream bytes done departures.old.leaving.items (S.calls system.old) result departures.new.leaving.items (S.calls system.new)
+    ensures answers { (result : Result (Unit {0}) Error) × Answers S.Stream.raw_fd stream bytes done departures.old.leaving.items (S.calls system.old) result departures.new.leaving.items (S.calls system.new)
         × Tallied departures.old.lost departures.new.lost result }
+    ensures within { Within departures.old.leaving.items → Within departures.new.leaving.items }
 {
     if hand_over(system, departures, stream, bytes, done).is_err() {
         count_one(&mut departures.lost);
@@ -388,9 +414,10 @@ pub(crate) fn advance<S: System>(
     departures: &mut Departures<S::Stream>,
     now: Duration,
 )
-    ensures { (went : List (Outgoing S.Stream)) × Advances S.Stream.raw_fd (S.calls system.old) departures.old.leaving.items went (S.calls system.new)
+    ensures advances { (went : List (Outgoing S.Stream)) × Advances S.Stream.raw_fd (S.calls system.old) departures.old.leaving.items went (S.calls system.new)
         × (departures.new.leaving.items ≡ filter (λ o. not (is_over o)) went)
         × (departures.new.lost ≡ capped (departures.old.lost + length (filter is_lost went))) }
+    ensures within { Within departures.old.leaving.items → Within departures.new.leaving.items }
 {
     go_each(system, &mut departures.leaving, now);
     departures.lost = departures

@@ -6,7 +6,8 @@ ghost use Rattle.site_model.specs.Counts.{capped};
 ghost use Rattle.site_model.specs.Told.{Files as Files_told, Is, file_of};
 ghost use Rattle.site_model.specs.Told.Call.{Post, Send};
 ghost use Rattle.site_model.specs.declared.site.Taken.TheVariants.{Opened};
-ghost use Rattle.atx_sites.specs.Arrivals.{Gives, KeepsOn};
+ghost use Rattle.atx_sites.specs.Arrivals.{Bounded, Gives, KeepsOn};
+ghost use Rattle.atx_sites.specs.Departures.{Within};
 ghost use Rattle.atx_sites.specs.Resends.{PostsOrHolds};
 ghost use Rattle.atx_sites.specs.Disks.{Tallied, file_at, other_at};
 ghost use Rattle.atx_sites.specs.FileCalls.{Raises, Reads, Sized, Syncs, Writes};
@@ -74,6 +75,7 @@ impl<S: System + Drop> NodeSite<S> {
         ensures shut { (result.connection.listener ≡ None) × (result.connection.served ≡ None) }
         ensures names { result.attached.names ≡ [] }
         ensures trouble { result.trouble ≡ None }
+        ensures aside { (result.connection.waiting.arriving.items ≡ []) × (result.departures.leaving.items ≡ []) }
     {
         NodeSite {
             alloc,
@@ -122,10 +124,15 @@ impl<S: System + Drop> NodeSite<S> {
 
     /// Lets go out what still leaves, each until its own time is over.
     pub fn leave(&mut self)
-        ensures { self.new.connection.served ≡ None }
+        ensures shut { self.new.connection.served ≡ None }
+        ensures aside { self.new.connection.waiting ≡ self.old.connection.waiting }
     {
         connection::close(&mut self.system, &mut self.connection, &mut self.departures);
-        let _ = connection::leave(&mut self.system, self.alloc, &mut self.departures);
+        let _ = connection::leave(
+            &mut self.system,
+            &mut self.connection.asks,
+            &mut self.departures,
+        );
     }
 }
 
@@ -143,13 +150,20 @@ impl<S: System + Drop> Site for NodeSite<S> {
         ensures tallied { Attempted self.old.disk.disk self.old.accept self.new.disk.disk self.new.accept result }
         ensures call { Attaches journal.now listen.now result (told_with self.old.disk self.old.accept self.old.receive self.old.link self.old.taken self.old.attached.names) (told_with self.new.disk self.new.accept self.new.receive self.new.link self.new.taken self.new.attached.names) }
         ensures told { TellsOne None result self.old.trouble self.new.trouble (S.calls self.new.system) }
+        ensures bounded { Bounded self.old.connection.waiting.arriving.items → Bounded self.new.connection.waiting.arriving.items }
+        ensures leaving { self.new.departures.leaving.items ≡ self.old.departures.leaving.items }
     {
         self.journal = kept(self.alloc, journal);
         self.listen = kept(self.alloc, listen);
         if disk::open(&mut self.system, &mut self.disk, &mut self.trouble, journal).is_err() {
             return Err(AttachFailed::Disk);
         }
-        let listening = connection::listen(&mut self.system, &mut self.connection, listen);
+        let listening = connection::listen(
+            &mut self.system,
+            &mut self.connection,
+            &mut self.departures,
+            listen,
+        );
         match noted(&mut self.accept, &mut self.trouble, Step::Listen, listening) {
             Ok(()) => {
                 self.attached = self.attached.and(&Given { journal, listen });
@@ -166,6 +180,8 @@ impl<S: System + Drop> Site for NodeSite<S> {
         ensures is { IfOk result (λ n. (f : Files_told) → Is (told_with self.old.disk self.old.accept self.old.receive self.old.link self.old.taken self.old.attached.names).files f → n ≡ length (file_of file f)) }
         ensures call { Looked result (told_with self.old.disk self.old.accept self.old.receive self.old.link self.old.taken self.old.attached.names) (told_with self.new.disk self.new.accept self.new.receive self.new.link self.new.taken self.new.attached.names) }
         ensures told { Tells (number_of S.File.raw_fd (file_at file self.old.disk)) (steps.Size file) result self.old.trouble self.new.trouble (S.calls self.new.system) }
+        ensures aside { self.new.connection ≡ self.old.connection }
+        ensures leaving { self.new.departures.leaving.items ≡ self.old.departures.leaving.items }
     {
         disk::size(&mut self.system, &mut self.disk, &mut self.trouble, file)
     }
@@ -180,6 +196,8 @@ impl<S: System + Drop> Site for NodeSite<S> {
         ensures end { IfOk result (λ n. (f : Files_told) → Is (told_with self.old.disk self.old.accept self.old.receive self.old.link self.old.taken self.old.attached.names).files f → n ≡ 0 → 0 < length buf.old → length (file_of file f) ≤ at) }
         ensures call { Looked result (told_with self.old.disk self.old.accept self.old.receive self.old.link self.old.taken self.old.attached.names) (told_with self.new.disk self.new.accept self.new.receive self.new.link self.new.taken self.new.attached.names) }
         ensures told { Tells (number_of S.File.raw_fd (file_at file self.old.disk)) (steps.Read file) result self.old.trouble self.new.trouble (S.calls self.new.system) }
+        ensures aside { self.new.connection ≡ self.old.connection }
+        ensures leaving { self.new.departures.leaving.items ≡ self.old.departures.leaving.items }
     {
         disk::read(
             &mut self.system,
@@ -198,6 +216,8 @@ impl<S: System + Drop> Site for NodeSite<S> {
         ensures tallied { Tallied self.old.disk.disk self.new.disk.disk result }
         ensures call { Wrote file at bytes.now result (told_with self.old.disk self.old.accept self.old.receive self.old.link self.old.taken self.old.attached.names) (told_with self.new.disk self.new.accept self.new.receive self.new.link self.new.taken self.new.attached.names) }
         ensures told { Tells (number_of S.File.raw_fd (file_at file self.old.disk)) (steps.Write file) result self.old.trouble self.new.trouble (S.calls self.new.system) }
+        ensures aside { self.new.connection ≡ self.old.connection }
+        ensures leaving { self.new.departures.leaving.items ≡ self.old.departures.leaving.items }
     {
         disk::write_at(
             &mut self.system,
@@ -218,6 +238,8 @@ impl<S: System + Drop> Site for NodeSite<S> {
         ensures tallied { Tallied self.old.disk.disk self.new.disk.disk result }
         ensures call { Synced file result (told_with self.old.disk self.old.accept self.old.receive self.old.link self.old.taken self.old.attached.names) (told_with self.new.disk self.new.accept self.new.receive self.new.link self.new.taken self.new.attached.names) }
         ensures told { Tells (number_of S.File.raw_fd (file_at file self.old.disk)) (steps.Sync file) result self.old.trouble self.new.trouble (S.calls self.new.system) }
+        ensures aside { self.new.connection ≡ self.old.connection }
+        ensures leaving { self.new.departures.leaving.items ≡ self.old.departures.leaving.items }
     {
         disk::sync(&mut self.system, &mut self.disk, &mut self.trouble, file)
     }
@@ -230,6 +252,8 @@ impl<S: System + Drop> Site for NodeSite<S> {
         ensures tallied { Tallied self.old.disk.gate self.new.disk.gate result }
         ensures call { Raised file at result (told_with self.old.disk self.old.accept self.old.receive self.old.link self.old.taken self.old.attached.names) (told_with self.new.disk self.new.accept self.new.receive self.new.link self.new.taken self.new.attached.names) }
         ensures told { Tells (number_of S.File.raw_fd (file_at file self.old.disk)) (steps.Gate file) result self.old.trouble self.new.trouble (S.calls self.new.system) }
+        ensures aside { self.new.connection ≡ self.old.connection }
+        ensures leaving { self.new.departures.leaving.items ≡ self.old.departures.leaving.items }
     {
         disk::raise_gate(
             &mut self.system,
@@ -248,6 +272,8 @@ impl<S: System + Drop> Site for NodeSite<S> {
         ensures tallied { Tallied self.old.accept self.new.accept result }
         ensures call { Takes result (told_with self.old.disk self.old.accept self.old.receive self.old.link self.old.taken self.old.attached.names) (told_with self.new.disk self.new.accept self.new.receive self.new.link self.new.taken self.new.attached.names) }
         ensures told { Tells (number_at S.Listener.raw_fd self.old.connection.listener) steps.Accept result self.old.trouble self.new.trouble (S.calls self.new.system) }
+        ensures bounded { Bounded self.old.connection.waiting.arriving.items → Bounded self.new.connection.waiting.arriving.items }
+        ensures within { Within self.old.departures.leaving.items → Within self.new.departures.leaving.items }
     {
         let opened = connection::take(
             &mut self.system,
@@ -270,6 +296,8 @@ impl<S: System + Drop> Site for NodeSite<S> {
         ensures same_length { length buf.new ≡ length buf.old }
         ensures gives { Gives buf.new result self.old.connection.served self.new.connection.served }
         ensures call { Received result buf.new (told_with self.old.disk self.old.accept self.old.receive self.old.link self.old.taken self.old.attached.names) (told_with self.new.disk self.new.accept self.new.receive self.new.link self.new.taken self.new.attached.names) }
+        ensures aside { self.new.connection.waiting ≡ self.old.connection.waiting }
+        ensures leaving { self.new.departures.leaving.items ≡ self.old.departures.leaving.items }
     {
         counted(
             &mut self.receive,
@@ -283,6 +311,8 @@ impl<S: System + Drop> Site for NodeSite<S> {
         ensures tallied { Tallied self.old.link self.new.link result }
         ensures kept { KeepsOn S.Stream.raw_fd bytes.now result self.old.connection.served self.new.connection.served (S.calls self.old.system) (S.calls self.new.system) }
         ensures call { Gave (Send bytes.now) result (told_with self.old.disk self.old.accept self.old.receive self.old.link self.old.taken self.old.attached.names) (told_with self.new.disk self.new.accept self.new.receive self.new.link self.new.taken self.new.attached.names) }
+        ensures aside { self.new.connection.waiting ≡ self.old.connection.waiting }
+        ensures leaving { self.new.departures.leaving.items ≡ self.old.departures.leaving.items }
     {
         counted(
             &mut self.link,
@@ -294,6 +324,8 @@ impl<S: System + Drop> Site for NodeSite<S> {
         ensures shut { self.new.connection.served ≡ None }
         ensures same { (self.new.connection.listener ≡ self.old.connection.listener) × (self.new.disk ≡ self.old.disk) }
         ensures call { Closes (told_with self.old.disk self.old.accept self.old.receive self.old.link self.old.taken self.old.attached.names) (told_with self.new.disk self.new.accept self.new.receive self.new.link self.new.taken self.new.attached.names) }
+        ensures aside { self.new.connection.waiting ≡ self.old.connection.waiting }
+        ensures within { Within self.old.departures.leaving.items → Within self.new.departures.leaving.items }
     {
         connection::close(&mut self.system, &mut self.connection, &mut self.departures);
     }
@@ -304,6 +336,8 @@ impl<S: System + Drop> Site for NodeSite<S> {
         ensures lost { Tallied self.old.departures.lost self.new.departures.lost result }
         ensures tallied { Tallied self.old.link self.new.link result }
         ensures call { Gave (Post host.now port bytes.now) result (told_with self.old.disk self.old.accept self.old.receive self.old.link self.old.taken self.old.attached.names) (told_with self.new.disk self.new.accept self.new.receive self.new.link self.new.taken self.new.attached.names) }
+        ensures aside { self.new.connection ≡ self.old.connection }
+        ensures within { Within self.old.departures.leaving.items → Within self.new.departures.leaving.items }
     {
         let request = connection::request(&self.connection);
         if is_held(

@@ -1,6 +1,6 @@
 //! One connection with bytes that leave.
 
-ghost use Rattle.std.specs.Prelude.{◌≡◌, ◌≤◌, ℕ, List, length};
+ghost use Rattle.std.specs.Prelude.{[], ◌≡◌, ◌≤◌, ℕ, List, length};
 ghost use Rattle.std.specs.declared.net.SocketAddr.{SocketAddr};
 ghost use Rattle.atx_sites.specs.Departures.{Begins, Goes, IfOut, is_lost, is_over};
 
@@ -93,7 +93,7 @@ impl<C: Drop> Outgoing<C> {
         done: usize,
         now: Duration,
     ) -> Outgoing<C>
-        ensures { (result.stream ≡ stream) × (result.bytes ≡ bytes) × (result.done ≡ done) }
+        ensures { (result.stream ≡ stream) × (result.bytes ≡ bytes) × (result.done ≡ done) × (result.addresses.items ≡ []) }
     {
         Outgoing {
             stream,

@@ -20,7 +20,7 @@ use std::time::Duration;
 use system_calls::system::System;
 
 /// The most connections that are read aside.
-const MOST: usize = 1024;
+pub(crate) const MOST: usize = 1024;
 
 /// The most bytes that are read aside of all connections.
 const MOST_BYTES: usize = 67_108_864;
@@ -66,7 +66,9 @@ fn is_wanting(fault: &io::Error) -> bool {
 }
 
 impl<C: AsRawFd + Drop> Waiting<C> {
-    pub(crate) fn new(alloc: Global) -> Waiting<C> {
+    pub(crate) fn new(alloc: Global) -> Waiting<C>
+        ensures { result.arriving.items ≡ [] }
+    {
         Waiting {
             alloc,
             arriving: Vec::new(alloc),
@@ -75,12 +77,13 @@ impl<C: AsRawFd + Drop> Waiting<C> {
         }
     }
 
-    /// Closes all of them, and makes room for the fields of a head.
+    /// Closes all of them, and makes room for as many as there may be and for the fields of a head.
     pub(crate) fn begin(&mut self) -> Result<(), AllocError>
         ensures { self.new.arriving.items ≡ [] }
     {
         self.arriving.clear();
         self.pause = None;
+        self.arriving.reserve(MOST)?;
         self.places.resize(FIELDS, EMPTY_HEADER_SPAN)
     }
 
@@ -117,7 +120,8 @@ impl<C: AsRawFd + Drop> Waiting<C> {
     /// Closes those whose time is over without a byte.
     #[tactic(auto, using(crate::proofs::Comings::have_removed))]
     fn close_silent(&mut self, now: Duration)
-        ensures { (number : C → Number) (listener : Number) (calls : Calls) → HaveCome number listener calls self.old.arriving.items → HaveCome number listener calls self.new.arriving.items }
+        ensures came { (number : C → Number) (listener : Number) (calls : Calls) → HaveCome number listener calls self.old.arriving.items → HaveCome number listener calls self.new.arriving.items }
+        ensures bounded { Bounded self.old.arriving.items → Bounded self.new.arriving.items }
     {
         'silent: for _ in 0..MOST {
             match place_of_silent(self.arriving.as_slice(), now) {
@@ -137,6 +141,7 @@ impl<C: AsRawFd + Drop> Waiting<C> {
     pub(crate) fn ready(&mut self, now: Duration) -> Option<Arriving<C>>
         ensures came { (number : C → Number) (listener : Number) (calls : Calls) → HaveCome number listener calls self.old.arriving.items → HaveCome number listener calls self.new.arriving.items }
         ensures taken { (number : C → Number) (listener : Number) (calls : Calls) → HaveCome number listener calls self.old.arriving.items → IfSome result (HasCome number listener calls) }
+        ensures bounded { Bounded self.old.arriving.items → Bounded self.new.arriving.items }
     {
         self.close_silent(now);
         match place_of_ready(self.arriving.as_slice(), now) {

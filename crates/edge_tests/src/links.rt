@@ -351,6 +351,62 @@ fn the_oldest_makes_room(rt: HostRuntime) -> Result<(), Fail> {
     Ok(())
 }
 
+/// The most bytes that are read aside of all connections.
+const MOST_BYTES: usize = 67_108_864;
+
+/// The bytes that come of a request whose second chunk isn't whole.
+const PART_BYTES: usize = 131_000;
+
+/// The beginning of a request in chunks of 65,520 bytes.
+fn part(alloc: Global) -> Result<Vec<u8>, AllocError> {
+    let mut bytes = Vec::new(alloc);
+    bytes.extend_from_slice(b"POST /a HTTP/1.1\r\nTransfer-Encoding: chunked\r\n\r\nfff0\r\n")?;
+    let end = bytes.len().saturating_add(65_520);
+    bytes.resize(end, b'a')?;
+    bytes.extend_from_slice(b"\r\nfff0\r\n")?;
+    bytes.resize(PART_BYTES, b'b')?;
+    Ok(bytes)
+}
+
+/// One request more than there is room for the bytes of, none of them whole, and then a whole one.
+fn heavy(alloc: Global) -> Result<World, AllocError> {
+    let part = part(alloc)?;
+    let mut world = world(alloc);
+    for _ in 0..=MOST_BYTES / PART_BYTES {
+        world.peer(sender(alloc, 0, 0, part.as_slice())?)?;
+    }
+    world.peer(sender(alloc, 10, 10, OTHER)?)?;
+    Ok(world)
+}
+
+/// How many bytes were read of all before the whole one, which is served at once: the one of which more is to come than there is
+/// room for is closed.
+fn weighed(alloc: Global) -> Result<Option<usize>, AllocError> {
+    let mut system = MemorySystem::new(heavy(alloc)?);
+    let mut site = NodeSite::new(alloc, &mut system);
+    let attached = site.attach("d/j", "127.0.0.1:9").is_ok();
+    let served = hears_at(&mut site, OTHER, 10);
+    let late = site.take().is_ok() && site.now() == 1_010_000;
+    drop(site);
+    let mut bytes: usize = 0;
+    for peer in system.world().peers() {
+        bytes = bytes.saturating_add(peer.gave());
+    }
+    let is_right = attached && served && late;
+    Ok(if is_right {
+        bytes.checked_sub(OTHER.len())
+    } else {
+        None
+    })
+}
+
+#[test]
+fn what_is_read_aside_has_a_bound(rt: HostRuntime) -> Result<(), Fail> {
+    let bytes = weighed(rt.alloc())?;
+    assert!(rt; bytes == Some(MOST_BYTES), "{bytes:?}");
+    Ok(())
+}
+
 /// What a browser sends for a page.
 const PAGE: &[u8] =
     b"POST /a HTTP/1.1\r\nHost: 127.0.0.1:9\r\nORIGIN: http://evil.example\r\nContent-Length: 3\r\n\r\nyes";

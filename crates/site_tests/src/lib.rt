@@ -7,6 +7,8 @@ mod crashes;
 #[cfg(test)]
 mod files;
 #[cfg(test)]
+mod numbers;
+#[cfg(test)]
 mod once;
 #[cfg(test)]
 mod peers;

@@ -58,6 +58,7 @@ pub struct Peer {
     pieces: Vec<Piece>,
     next: usize,
     given: usize,
+    gave: usize,
     room: usize,
     took: Vec<u8>,
     told: bool,
@@ -79,6 +80,7 @@ impl Peer {
             pieces: Vec::new(alloc),
             next: 0,
             given: 0,
+            gave: 0,
             room: usize::MAX,
             took: Vec::new(alloc),
             told: false,
@@ -112,6 +114,11 @@ impl Peer {
     /// It takes so many bytes in all, and then no more.
     pub fn takes(&mut self, room: usize) {
         self.room = room;
+    }
+
+    /// How many of its bytes were read.
+    pub fn gave(&self) -> usize {
+        self.gave
     }
 
     /// What was sent to it.
@@ -210,6 +217,7 @@ impl Peer {
         let left = piece.bytes.as_slice().get(self.given..).unwrap_or(&[]);
         let n = buf.len().min(left.len()).min(most);
         buf[..n].copy_from_slice(&left[..n]);
+        self.gave = self.gave.saturating_add(n);
         if n < left.len() {
             self.given = self.given.saturating_add(n);
         } else {

@@ -3,7 +3,7 @@ use Rattle.atx_sites.proofs.Comings.{as_late}
 use Rattle.atx_sites.proofs.connection.end.Goals as goal
 
 pub returns-then-is_cut : goal.returns-then-is_cut
-returns-then-is_cut g c = record { later = as_late _ }
+returns-then-is_cut g c = record { later = as_late _; within = λ h. h }
 
 pub returns : goal.returns
-returns g c = record { later = answers_later _ _ _ _ _ _ _ _ _ c.answer.ensures.1 }
+returns g c = record { later = answers_later _ _ _ _ _ _ _ _ _ c.answer.ensures.answers.1; within = c.answer.ensures.within }

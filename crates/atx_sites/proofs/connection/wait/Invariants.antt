@@ -1,4 +1,5 @@
-use Rattle.atx_sites.specs.Arrivals.{HaveCome}
+use Rattle.atx_sites.specs.Departures.{Within}
+use Rattle.atx_sites.specs.Arrivals.{Bounded, HaveCome}
 use Rattle.atx_sites.specs.LinkCalls.{Later}
 use Rattle.atx_sites.proofs.connection.wait.Given as goal
 
@@ -7,3 +8,5 @@ invariant-waits g l =
     (HaveCome g.S.Stream.AsRawFd.raw_fd (g.S.Listener.AsRawFd.raw_fd l.listener) (g.S.System.calls l.fn.system) l.fn.waiting.arriving.items
     → HaveCome g.S.Stream.AsRawFd.raw_fd (g.S.Listener.AsRawFd.raw_fd l.listener) (g.S.System.calls l.system) l.waiting.arriving.items)
     × Later (g.S.System.calls l.fn.system) (g.S.System.calls l.system)
+    × (Bounded l.fn.waiting.arriving.items → Bounded l.waiting.arriving.items)
+    × (Within l.fn.departures.leaving.items → Within l.departures.leaving.items)

@@ -13,8 +13,8 @@ pub returns-in-Ok-monotonic-clause-later : goal.returns-in-Ok-monotonic-clause-l
 returns-in-Ok-monotonic-clause-later g c =
     later_still _ _ _ (later_by _ _ _ _ (looks_later _ _ _ _ _ c.look.ensures) c.monotonic.ensures) c.go_on.ensures.later
 
-pub returns-clause-came : goal.returns-clause-came
-returns-clause-came g c = λ h. have_still g.S.Stream.AsRawFd.raw_fd _ _ _ _ h (later_by _ _ _ _ (looks_later _ _ _ _ _ c.look.ensures) c.monotonic.ensures)
+pub returns-in-Err-clause-came : goal.returns-in-Err-clause-came
+returns-in-Err-clause-came g c = λ h. have_still g.S.Stream.AsRawFd.raw_fd _ _ _ _ h (later_by _ _ _ _ (looks_later _ _ _ _ _ c.look.ensures) c.monotonic.ensures)
 
-pub returns-clause-later : goal.returns-clause-later
-returns-clause-later g c = later_by _ _ _ _ (looks_later _ _ _ _ _ c.look.ensures) c.monotonic.ensures
+pub returns-in-Err-clause-later : goal.returns-in-Err-clause-later
+returns-in-Err-clause-later g c = later_by _ _ _ _ (looks_later _ _ _ _ _ c.look.ensures) c.monotonic.ensures

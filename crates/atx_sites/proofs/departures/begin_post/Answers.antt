@@ -16,5 +16,5 @@ returns-in_default-from_slice-clause-posts g c =
 
 pub returns-clause-posts : goal.returns-clause-posts
 returns-clause-posts g c =
-    let posts = same_bytes _ _ c.args.bytes.now _ _ _ _ _ _ c.in-Ok-from_slice.ensures.items c.post_to.ensures in
+    let posts = same_bytes _ _ c.args.bytes.now _ _ _ _ _ _ c.in-Ok-from_slice.ensures.items c.post_to.ensures.posts in
     (c.addresses.ensures.0, c.addresses.ensures.1, _, _, looked_clock _ _ _ _ _ _ c.addresses.ensures.2 c.monotonic.ensures, posts)

@@ -6,10 +6,12 @@ pub returns-then-is_err : goal.returns-then-is_err
 returns-then-is_err g c = record {
   posts = c.begin_post-posted.ensures.posts;
   lost = tallied_err c.begin_post-posted.result _ _ _ (sym c.is_err.ensures.value ∙ c.if-is_err.true) c.begin_post-posted.ensures.same c.count_one.ensures;
+  within = c.begin_post-posted.ensures.within;
 }
 
 pub returns-else-is_err : goal.returns-else-is_err
 returns-else-is_err g c = record {
   posts = c.begin_post-posted.ensures.posts;
   lost = tallied_ok c.begin_post-posted.result _ _ (sym c.is_err.ensures.value ∙ c.if-is_err.false) c.begin_post-posted.ensures.same;
+  within = c.begin_post-posted.ensures.within;
 }
