@@ -65,7 +65,7 @@ fn tell<S: System + Drop, E: Sink>(
     errors: &mut E,
 ) {
     if status == ExitCode::from(SINK_FAILED) {
-        let _ = write_all(errors, b"atx: nobody takes what is printed\n");
+        let _ = write_all(errors, b"atx: standard output can't be written\n");
     }
     if let Some(trouble) = machine.trouble() {
         if MACHINE_FAILED

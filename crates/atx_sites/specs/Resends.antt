@@ -1,5 +1,5 @@
 -- Posts that are held back.
-use Rattle.std.specs.Prelude.{ℕ, List, Bool, true, false, Result, is_err, ◌≡◌, ◌⊎◌, Ok}
+use Rattle.std.specs.Prelude.{ℕ, List, Bool, true, false, Result, is_err, ◌≡◌, ◌⊎◌, ◌/◌, ◌^◌, ◌*◌, ◌+◌, ◌-◌, min, Ok}
 use Rattle.std.specs.declared.time.Duration.{Duration}
 use Rattle.resend_delays.specs.Delays.{goes, kept, mark_of}
 use Rattle.resend_delays.specs.declared.delays.Delays.{Delays}
@@ -8,10 +8,18 @@ use Rattle.system_calls.specs.Calls.Call.{Monotonic}
 use Rattle.atx_sites.specs.Departures.{Posts}
 use Rattle.atx_sites.specs.declared.outgoing.Outgoing.{Outgoing}
 
--- The clock is read, or nothing is done. Where the post is held, the same went out a shorter time ago than its delay.
+abbrev pub nanos_of : Duration → ℕ
+nanos_of time = time.secs * 1000000000 + (min time.nanos 999999999)
+
+-- a time in milliseconds, or the most that a number of 64 bits says
+abbrev pub IsMillis : Duration → ℕ → Type 0
+IsMillis time millis = (millis ≡ nanos_of time / 1000000) ⊎ (millis ≡ 2 ^ 64 - 1)
+
+-- The clock is read, or it fails, or nothing is done. Where the post is held, by that clock the same went out a shorter time ago than
+-- its delay.
 abbrev pub IfHeld : Bool → List ℕ → ℕ → List ℕ → Delays → Calls → Calls → Type 0
 IfHeld true host port bytes delays old new =
-    (got : Answer Duration) × (new ≡ then (Monotonic got) old) × ((now : ℕ) × (goes now (kept now delays (mark_of host port bytes)) ≡ false))
+    (time : Duration) × (new ≡ then (Monotonic (Ok time)) old) × ((now : ℕ) × IsMillis time now × (goes now (kept now delays (mark_of host port bytes)) ≡ false))
 IfHeld false host port bytes delays old new = (new ≡ old) ⊎ ((got : Answer Duration) × (new ≡ then (Monotonic got) old))
 
 -- Nothing is sent, and nothing else is changed; or the bytes are posted.

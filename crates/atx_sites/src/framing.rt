@@ -102,8 +102,8 @@ fn said_by(bytes: &[u8], places: &[HeaderSpan]) -> Said {
     said
 }
 
-/// What comes behind a whole head. One of a web page isn't read further. A request that is no post, or whose body ends nowhere, is refused by its head; one that
-/// waits for an interim answer has no more before that.
+/// What comes behind a whole head. One of a web page isn't read further. A request that is no post, or whose body ends
+/// nowhere, is refused by its head; one that waits for an interim answer has no more before that.
 fn behind_head(bytes: &[u8], head: &RequestSpans, places: &[HeaderSpan]) -> Stage {
     let said = said_by(bytes, places);
     if said.is_foreign {

@@ -37,7 +37,7 @@ use system_calls::system::System;
 /// or when 10 seconds are over since it was accepted: a peer that is slow or silent waits alone. What an answer's peer and the
 /// peers of posts don't take at once goes on leaving while other connections are served; they have 5 seconds for that. The same
 /// bytes go to the same host again only 5 seconds later, and then after twice as long each time, a minute at most, unless the
-/// request that is served names their address: a post between is lost. No
+/// request that is served names their address: a post between is left out, and not counted as lost. No
 /// call waits for one peer, but the name of a host is looked up without a limit, at most once in 60 seconds: give nodes by IP
 /// addresses, or by names that this machine knows.
 #[derive(Drop)]

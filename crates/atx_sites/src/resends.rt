@@ -2,10 +2,11 @@
 
 ghost use Rattle.std.specs.Prelude.{◌≡◌, false};
 ghost use Rattle.resend_delays.specs.Delays.{goes, kept, mark_of};
-ghost use Rattle.atx_sites.specs.Resends.{IfHeld};
+ghost use Rattle.atx_sites.specs.Resends.{IfHeld, IsMillis};
 
 use resend_delays::delays::{Delays, mark_of};
 use std::alloc::{AllocError, Global};
+use std::time::Duration;
 use system_calls::system::System;
 
 /// The target of a request, behind the space in its first line.
@@ -47,6 +48,16 @@ fn is_named(alloc: Global, request: &[u8], host: &str, port: u16, bytes: &[u8]) 
     }
 }
 
+/// A time in milliseconds; the most that there are where it has more.
+fn millis(time: Duration) -> u64
+    ensures { IsMillis time result }
+{
+    match u64::try_from(time.as_millis()) {
+        Ok(millis) => millis,
+        Err(_) => u64::MAX,
+    }
+}
+
 /// Whether the same went out too short a time ago.
 fn is_early<S: System>(
     system: &mut S,
@@ -60,8 +71,7 @@ fn is_early<S: System>(
     let Ok(time) = system.monotonic() else {
         return false;
     };
-    let now = u64::try_from(time.as_millis()).unwrap_or(u64::MAX);
-    !delays.pass(now, mark_of(host, port, bytes))
+    !delays.pass(millis(time), mark_of(host, port, bytes))
 }
 
 /// Whether a post is held back: the same went out too short a time ago, and its address doesn't stand in the request that is
@@ -76,8 +86,8 @@ pub(crate) fn is_held<S: System>(
 ) -> bool
     ensures { IfHeld result host.now port bytes.now delays.old (S.calls system.old) (S.calls system.new) }
 {
-    if is_named(delays.alloc(), request, host, port, bytes) {
+    if !is_early(system, delays, host, port, bytes) {
         return false;
     }
-    is_early(system, delays, host, port, bytes)
+    !is_named(delays.alloc(), request, host, port, bytes)
 }

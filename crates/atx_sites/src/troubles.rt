@@ -90,7 +90,8 @@ fn words(step: Step) -> &'static str {
         Step::Size(_) => "its bytes can't be counted",
         Step::Read(_) => "can't be read",
         Step::Write(_) => "can't be written",
-        Step::Sync(_) | Step::Gate(_) => "can't be synced",
+        Step::Sync(_) => "can't be synced",
+        Step::Gate(_) => "a record of it can't be ended",
     }
 }
 

@@ -3,7 +3,7 @@
 use atx_sites::node_site::NodeSite;
 use system_calls::system::System;
 
-/// A machine whose answers and posts go on leaving beside its calls, and may be lost behind them.
+/// A machine whose answers and posts go on leaving beside its calls, and may be lost, at once or behind them.
 pub trait Departing {
     /// How many were lost.
     fn lost(&self) -> u64;

@@ -13,7 +13,7 @@ use std::time::Clock;
 
 /// The machine of a node that serves. Each of its calls is that call of the machine inside. Where it has a log, a line is
 /// written there of each request with the status of its answer, of each post, of each call of the disk that failed, of a
-/// journal that goes on in its other file, and of answers and posts that were lost behind their calls.
+/// journal that goes on in its other file, and of how many answers and posts were lost so far.
 #[derive(Drop)]
 pub struct LoggedSite<H: Site + Departing + Drop, K: Sink + Drop, C: Clock + Drop> {
     site: H,
@@ -83,7 +83,9 @@ impl<H: Site + Departing + Drop, K: Sink + Drop, C: Clock + Drop> Site for Logge
         let raised = self.site.raise_gate(file, at);
         self.notes
             .disk(raised.is_err(), "can't end a record of file", file);
-        self.notes.goes_on(file);
+        if raised.is_ok() {
+            self.notes.goes_on(file);
+        }
         raised
     }
 

@@ -14,6 +14,8 @@ const HEAD_BYTES: usize = 8192;
 pub(crate) struct Notes<K: Sink + Drop, C: Clock + Drop> {
     log: Option<Log<K, C>>,
     asked: Vec<u8>,
+    /// There was no memory for more of the request.
+    is_cut: bool,
     lost: u64,
     file: Option<u8>,
 }
@@ -66,6 +68,7 @@ impl<K: Sink + Drop, C: Clock + Drop> Notes<K, C> {
         Notes {
             log,
             asked: Vec::new(alloc),
+            is_cut: false,
             lost: 0,
             file: None,
         }
@@ -104,14 +107,15 @@ impl<K: Sink + Drop, C: Clock + Drop> Notes<K, C> {
     /// Another connection is waited for.
     pub(crate) fn wait(&mut self) {
         self.asked.clear();
+        self.is_cut = false;
     }
 
     /// Bytes of a request came.
     pub(crate) fn hear(&mut self, bytes: &[u8]) {
         let room = HEAD_BYTES.saturating_sub(self.asked.len());
         let count = room.min(bytes.len());
-        if self.log.is_some() && self.asked.extend_from_slice(&bytes[..count]).is_err() {
-            self.asked.clear();
+        if self.log.is_some() && !self.is_cut {
+            self.is_cut = self.asked.extend_from_slice(&bytes[..count]).is_err();
         }
     }
 

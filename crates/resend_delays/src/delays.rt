@@ -113,7 +113,7 @@ impl Delays {
     fn keep(&mut self, mark: [u8; 20], delay: Delay)
         ensures { (known self.new mark ≡ Some delay) ⊎ (known self.new mark ≡ known self.old mark) }
     {
-        if self.recent.len() < MOST_POSTS {
+        if self.recent.get(&mark).is_some() || self.recent.len() < MOST_POSTS {
             let _ = self.recent.insert(mark, delay);
         }
     }
