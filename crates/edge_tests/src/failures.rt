@@ -53,13 +53,19 @@ const LINES: &[(usize, &str)] = &[
         "127.0.0.1:9: can't be listened at: Input/output error (os error 5)",
     ),
     (14, "d/j: can't be written: Input/output error (os error 5)"),
-    (15, "d/j: can't be synced: a sync of it failed before"),
+    (
+        15,
+        "d/j: a record of it can't be ended: a sync of it failed before",
+    ),
     (
         16,
         "d/j: its bytes can't be counted: Input/output error (os error 5)",
     ),
     (17, "d/j: can't be read: Input/output error (os error 5)"),
-    (18, "d/j: can't be synced: Input/output error (os error 5)"),
+    (
+        18,
+        "d/j: a record of it can't be ended: Input/output error (os error 5)",
+    ),
     (
         20,
         "d/j.1: can't be written: Input/output error (os error 5)",
