@@ -1,13 +1,13 @@
 # Completion of atx's words in bash: put it into /usr/share/bash-completion/completions/atx, or read it by `. atx.bash`.
 _atx() {
   local word=${COMP_WORDS[COMP_CWORD]} before=${COMP_WORDS[COMP_CWORD-1]}
-  local commands='cell check replay audit make tick coordinator participant initiator help'
+  local commands='cell check replay audit journal make tick coordinator participant initiator help'
   local options
   case $before in
     --journal) COMPREPLY=($(compgen -f -- "$word")); return ;;
     --state) options='None Registering Active Preparing Prepared PreparedSuccess Committing Aborting Completing Done' ;;
     --listen) options='127.0.0.1:9001' ;;
-    --base | --to) options='http://' ;;
+    --base | --to | --hex) options='http://' ;;
     --path | --seed | --steps | --turns) return ;;
     *)
       case ${COMP_WORDS[1]} in
@@ -15,6 +15,7 @@ _atx() {
         check) options='--path --help' ;;
         replay) options='--settle --bytes --help' ;;
         audit) options='--help' ;;
+        journal) options="--hex --help $(compgen -f -- "$word")" ;;
         make) options='--seed --steps --help' ;;
         tick) options='--to --help' ;;
         coordinator | participant | initiator) options='--listen --base --journal --turns --log --help' ;;

@@ -1,4 +1,4 @@
--- What becomes of a job that is handed words, a source, a sink and a site.
+-- What becomes of a job that is handed words, a source, a sink, one for errors, files and a site.
 use Rattle.std.specs.Prelude.{ℕ, List, ◌≡◌, ◌⊎◌}
 use Rattle.std.specs.Fn.{Once}
 use Rattle.std.specs.declared.io.ErrorKind.{ErrorKind}
