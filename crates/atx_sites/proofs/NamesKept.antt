@@ -96,10 +96,20 @@ reaches_kept host port addresses old new now names i name h in' at same (bytes, 
     ]
 
 -- what was so since a later call was so since an earlier one
+pub reaches_from : (host : List ℕ) (port : ℕ) (addresses : List SocketAddr) (old mid new : Calls) → Later old mid → MayReach host port addresses mid new → MayReach host port addresses old new
+reaches_from host port addresses old mid new l (inl e) = inl e
+reaches_from host port addresses old mid new l (inr (inl own)) = inr (inl own)
+reaches_from host port addresses old mid new l (inr (inr (at, now, answered, (before, next, since, told, behind), early))) =
+    inr (inr (at, now, answered, (before, next, later_still old mid before l since, told, behind), early))
+
+-- and it stays so behind others
+pub reaches_behind : (host : List ℕ) (port : ℕ) (addresses : List SocketAddr) (old mid new : Calls) → MayReach host port addresses old mid → Later mid new → MayReach host port addresses old new
+reaches_behind host port addresses old mid new (inl e) l = inl e
+reaches_behind host port addresses old mid new (inr (inl own)) l = inr (inl own)
+reaches_behind host port addresses old mid new (inr (inr (at, now, answered, (before, next, since, told, behind), early))) l =
+    inr (inr (at, now, still_answered host port addresses at mid new answered l, (before, next, since, told, later_still next mid new behind l), early))
+
 pub reaches_since : {E : Type 0} (host : List ℕ) (port : ℕ) (old mid new : Calls) (result : Result (Vec SocketAddr Global) E) → Later old mid → IfOk result (λ v. MayReach host port v.items mid new)
     → IfOk result (λ v. MayReach host port v.items old new)
 reaches_since host port old mid new (Err fault) l h = tt
-reaches_since host port old mid new (Ok v) l (inl e) = inl e
-reaches_since host port old mid new (Ok v) l (inr (inl own)) = inr (inl own)
-reaches_since host port old mid new (Ok v) l (inr (inr (at, now, answered, (before, next, since, told, behind), early))) =
-    inr (inr (at, now, answered, (before, next, later_still old mid before l since, told, behind), early))
+reaches_since host port old mid new (Ok v) l h = reaches_from host port v.items old mid new l h
