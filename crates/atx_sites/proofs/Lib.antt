@@ -6,6 +6,7 @@ pub mod DepartureBounds
 pub mod DepartureLists
 pub mod FilePieces
 pub mod Leavings
+pub mod NamesKept
 pub mod Pausing
 pub mod Pushes
 pub mod Receipts

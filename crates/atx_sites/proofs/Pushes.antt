@@ -1,9 +1,13 @@
 -- What a push left, by its answer.
-use Rattle.std.proofs.Common.{ℕ, Bool, List, Result, Ok, Err, true, false, ◌≡◌, ◌+◌, ◌∙◌, ap, length, not, subst, sym}
+use Rattle.std.proofs.Common.{ℕ, Bool, List, Result, Ok, Err, true, false, [], ◌∷◌, ◌++◌, ◌≡◌, ◌+◌, ◌∙◌, ap, length, not, subst, sym}
 use Rattle.std.specs.Prelude.{if◌then◌else◌, is_err, is_ok}
 use Rattle.site_model.specs.Counts.{capped}
+use Rattle.system_calls.specs.Calls.{Calls}
 use Rattle.atx_sites.specs.Departures.{Closes, IfOut}
 use Rattle.atx_sites.specs.Disks.{Tallied}
+use Rattle.atx_sites.specs.Names.{AreAnswered, IsAnswered}
+use Rattle.atx_sites.specs.declared.resolved_names.Name.{Name}
+use Rattle.atx_sites.proofs.NamesKept.{kept_pushed}
 
 pub pushed : {E X : Type 0} (r : Result (Unit {0}) E) (new more old : X) → is_err r ≡ false → new ≡ (if is_ok r then more else old) → new ≡ more
 pushed (Ok x) new more old h e = e
@@ -30,3 +34,9 @@ tallied_ok (Err x) before now e same = cc
 pub closed_of : {T E : Type 0} (r : Result T E) (out : Bool) (bytes items : List ℕ) (taken : ℕ) → bytes ≡ items → is_err r ≡ not out → IfOut out (length bytes) taken
     → Closes r (length items) taken
 closed_of r out bytes items taken same e h = closed r out (length items) taken e (subst (λ (l : List ℕ). IfOut out (length l) taken) same h)
+
+-- a name that is kept
+pub kept_push : {E : Type 0} (r : Result (Unit {0}) E) (calls : Calls) (old new : List Name) (name : Name) → new ≡ (if is_ok r then old ++ name ∷ [] else old) → AreAnswered calls old
+    → IsAnswered calls name → AreAnswered calls new
+kept_push (Ok x) calls old new name e h k = subst (AreAnswered calls) (sym e) (kept_pushed calls old name h k)
+kept_push (Err x) calls old new name e h k = subst (AreAnswered calls) (sym e) h

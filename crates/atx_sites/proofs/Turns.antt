@@ -7,6 +7,7 @@ use Rattle.atx_sites.specs.Departures.{Joins, Posts, Starts}
 use Rattle.atx_sites.specs.Disks.{Tallied}
 use Rattle.atx_sites.specs.declared.connection.Served.{Served}
 use Rattle.atx_sites.specs.declared.outgoing.Outgoing.{Outgoing}
+use Rattle.atx_sites.specs.declared.resolved_names.Name.{Name}
 
 module _ {C : Type 0} where
   pub gives_counted : (buf : List ℕ) (answer : Answer ℕ) (result : Result ℕ Failed) (old new : Option (Served C)) → ((x : ℕ) → answer ≡ Ok x → result ≡ Ok x)
@@ -46,18 +47,18 @@ tallied_counted before now (Ok x) result was ok h = subst (λ r. Tallied before 
 tallied_counted before now (Err e) (Ok x) was ok h = cc
 tallied_counted before now (Err e) (Err f) was ok h = h
 
-posts_done : {C : Type 0} (E F : Type 0) (number : C → Number) (host : List ℕ) (port : ℕ) (bytes : List ℕ) (before : List (Outgoing C)) (old : Calls) (d : Unit {0}) (after : List (Outgoing C)) (new : Calls)
-    → Posts {E = E} number host port bytes before old (Ok d) after new → Posts {E = F} number host port bytes before old (Ok d) after new
-posts_done E F number host port bytes before old d after new h = h
+posts_done : {C : Type 0} (E F : Type 0) (number : C → Number) (names : List Name) (host : List ℕ) (port : ℕ) (bytes : List ℕ) (before : List (Outgoing C)) (old : Calls) (d : Unit {0}) (after : List (Outgoing C)) (new : Calls)
+    → Posts {E = E} number names host port bytes before old (Ok d) after new → Posts {E = F} number names host port bytes before old (Ok d) after new
+posts_done E F number names host port bytes before old d after new h = h
 
-posts_failed : {C E F : Type 0} (number : C → Number) (host : List ℕ) (port : ℕ) (bytes : List ℕ) (before : List (Outgoing C)) (old : Calls) (e : E) (f : F) (after : List (Outgoing C)) (new : Calls)
-    → Posts number host port bytes before old (Err e) after new → Posts number host port bytes before old (Err f) after new
-posts_failed number host port bytes before old e f after new h = h
+posts_failed : {C E F : Type 0} (number : C → Number) (names : List Name) (host : List ℕ) (port : ℕ) (bytes : List ℕ) (before : List (Outgoing C)) (old : Calls) (e : E) (f : F) (after : List (Outgoing C)) (new : Calls)
+    → Posts number names host port bytes before old (Err e) after new → Posts number names host port bytes before old (Err f) after new
+posts_failed number names host port bytes before old e f after new h = h
 
-pub posts_counted : {C E F : Type 0} (number : C → Number) (host : List ℕ) (port : ℕ) (bytes : List ℕ) (before : List (Outgoing C)) (old : Calls) (answer : Result (Unit {0}) E) (result : Result (Unit {0}) F)
+pub posts_counted : {C E F : Type 0} (number : C → Number) (names : List Name) (host : List ℕ) (port : ℕ) (bytes : List ℕ) (before : List (Outgoing C)) (old : Calls) (answer : Result (Unit {0}) E) (result : Result (Unit {0}) F)
     (after : List (Outgoing C)) (new : Calls) → ((x : Unit {0}) → answer ≡ Ok x → result ≡ Ok x) → IfOk result (λ x. answer ≡ Ok x)
-    → Posts number host port bytes before old answer after new → Posts number host port bytes before old result after new
-posts_counted {E = E} {F = F} number host port bytes before old (Ok d) result after new was ok h =
-    subst (λ r. Posts number host port bytes before old r after new) (sym (was d refl)) (posts_done E F number host port bytes before old d after new h)
-posts_counted number host port bytes before old (Err e) (Ok x) after new was ok h = cc
-posts_counted number host port bytes before old (Err e) (Err f) after new was ok h = posts_failed number host port bytes before old e f after new h
+    → Posts number names host port bytes before old answer after new → Posts number names host port bytes before old result after new
+posts_counted {E = E} {F = F} number names host port bytes before old (Ok d) result after new was ok h =
+    subst (λ r. Posts number names host port bytes before old r after new) (sym (was d refl)) (posts_done E F number names host port bytes before old d after new h)
+posts_counted number names host port bytes before old (Err e) (Ok x) after new was ok h = cc
+posts_counted number names host port bytes before old (Err e) (Err f) after new was ok h = posts_failed number names host port bytes before old e f after new h

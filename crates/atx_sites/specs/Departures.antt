@@ -7,8 +7,10 @@ use Rattle.std.specs.declared.time.Duration.{Duration}
 use Rattle.std.specs.declared.alloc.Global.{Global}
 use Rattle.system_calls.specs.Calls.{Calls, Number, Answer, then}
 use Rattle.system_calls.specs.Calls.Call.{Connect, Monotonic, Read, Resolve, ShutDown, Write}
+use Rattle.atx_sites.specs.Names.{AreAnswered, MayReach}
 use Rattle.atx_sites.specs.declared.outgoing.Outgoing.{Outgoing}
 use Rattle.atx_sites.specs.declared.outgoing.Stage.{Stage}
+use Rattle.atx_sites.specs.declared.resolved_names.Name.{Name}
 use Rattle.atx_sites.specs.declared.outgoing.Stage.TheVariants as stages
 
 -- The calls of one connection, from where `sent` of its bytes were taken: each write is of all that those before it didn't take.
@@ -154,10 +156,12 @@ pub data Looks (host : List ℕ) (port : ℕ) (old : Calls) : Calls → Type 0 w
 abbrev pub IsBare : List ℕ → List ℕ → Type 0
 IsBare host bare = (bare ≡ host) ⊎ (host ≡ 91 ∷ bare ++ 93 ∷ [])
 
--- these bytes are posted, where the addresses of that host are known or it is looked up, at that port
-abbrev pub Posts : {C E : Type 0} → (C → Number) → List ℕ → ℕ → List ℕ → List (Outgoing C) → Calls → Result (Unit {0}) E → List (Outgoing C) → Calls → Type 0
-Posts number host port bytes before old result after new =
-    (bare : List ℕ) × IsBare host bare × (addresses : List SocketAddr) × (looked : Calls) × Looks bare port old looked × PostsTo number addresses bytes before looked result after new
+-- these bytes are posted, where the addresses of that host are known or it is looked up, at that port. Where the names that are
+-- kept were answered, so were these addresses, less than 60 seconds ago
+abbrev pub Posts : {C E : Type 0} → (C → Number) → List Name → List ℕ → ℕ → List ℕ → List (Outgoing C) → Calls → Result (Unit {0}) E → List (Outgoing C) → Calls → Type 0
+Posts number names host port bytes before old result after new =
+    (bare : List ℕ) × IsBare host bare × (addresses : List SocketAddr) × (looked : Calls) × Looks bare port old looked
+    × (AreAnswered old names → MayReach bare port addresses old looked) × PostsTo number addresses bytes before looked result after new
 
 -- what is left of an answer is taken over with its connection, where one more has room
 abbrev pub Answers : {C : Type 0} → (C → Number) → C → Vec ℕ Global → ℕ → List (Outgoing C) → Calls → Result (Unit {0}) Error → List (Outgoing C) → Calls → Type 0

@@ -5,5 +5,6 @@ pub mod Failures
 pub mod FileCalls
 pub mod Files
 pub mod LinkCalls
+pub mod Names
 pub mod Networks
 pub mod Resends

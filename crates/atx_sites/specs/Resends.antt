@@ -7,6 +7,7 @@ use Rattle.system_calls.specs.Calls.{Answer, Calls, Number, then}
 use Rattle.system_calls.specs.Calls.Call.{Monotonic}
 use Rattle.atx_sites.specs.Departures.{Posts}
 use Rattle.atx_sites.specs.declared.outgoing.Outgoing.{Outgoing}
+use Rattle.atx_sites.specs.declared.resolved_names.Name.{Name}
 
 abbrev pub nanos_of : Duration → ℕ
 nanos_of time = time.secs * 1000000000 + (min time.nanos 999999999)
@@ -23,6 +24,6 @@ IfHeld true host port bytes delays old new =
 IfHeld false host port bytes delays old new = (new ≡ old) ⊎ ((got : Answer Duration) × (new ≡ then (Monotonic got) old))
 
 -- Nothing is sent, and nothing else is changed; or the bytes are posted.
-abbrev pub PostsOrHolds : {C E : Type 0} → (C → Number) → List ℕ → ℕ → List ℕ → Delays → List (Outgoing C) → Calls → Result (Unit {0}) E → List (Outgoing C) → Calls → Type 0
-PostsOrHolds number host port bytes delays before old result after new =
-    ((is_err result ≡ false) × (after ≡ before) × IfHeld true host port bytes delays old new) ⊎ Posts number host port bytes before old result after new
+abbrev pub PostsOrHolds : {C E : Type 0} → (C → Number) → List Name → List ℕ → ℕ → List ℕ → Delays → List (Outgoing C) → Calls → Result (Unit {0}) E → List (Outgoing C) → Calls → Type 0
+PostsOrHolds number names host port bytes delays before old result after new =
+    ((is_err result ≡ false) × (after ≡ before) × IfHeld true host port bytes delays old new) ⊎ Posts number names host port bytes before old result after new

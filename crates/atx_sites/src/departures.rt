@@ -286,7 +286,7 @@ fn begin_post<S: System>(
     port: u16,
     bytes: &[u8],
 ) -> io::Result<()>
-    ensures posts { Posts S.Stream.raw_fd host.now port bytes.now departures.old.leaving.items (S.calls system.old) result departures.new.leaving.items (S.calls system.new) }
+    ensures posts { Posts S.Stream.raw_fd departures.old.names.names.items host.now port bytes.now departures.old.leaving.items (S.calls system.old) result departures.new.leaving.items (S.calls system.new) }
     ensures same { departures.new.lost ≡ departures.old.lost }
     ensures within { Within departures.old.leaving.items → Within departures.new.leaving.items }
 {
@@ -311,7 +311,7 @@ pub(crate) fn post<S: System>(
     port: u16,
     bytes: &[u8],
 ) -> io::Result<()>
-    ensures posts { Posts S.Stream.raw_fd host.now port bytes.now departures.old.leaving.items (S.calls system.old) result departures.new.leaving.items (S.calls system.new) }
+    ensures posts { Posts S.Stream.raw_fd departures.old.names.names.items host.now port bytes.now departures.old.leaving.items (S.calls system.old) result departures.new.leaving.items (S.calls system.new) }
     ensures lost { Tallied departures.old.lost departures.new.lost result }
     ensures within { Within departures.old.leaving.items → Within departures.new.leaving.items }
 {

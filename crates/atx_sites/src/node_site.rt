@@ -332,7 +332,7 @@ impl<S: System + Drop> Site for NodeSite<S> {
 
     #[tactic(auto, using(crate::proofs::SilentMachines::gave, crate::proofs::HeldPosts::held, crate::proofs::HeldPosts::posted_later))]
     fn post(&mut self, host: &str, port: u16, bytes: &[u8]) -> Result<(), Failed>
-        ensures posts { PostsOrHolds S.Stream.raw_fd host.now port bytes.now self.old.delays self.old.departures.leaving.items (S.calls self.old.system) result self.new.departures.leaving.items (S.calls self.new.system) }
+        ensures posts { PostsOrHolds S.Stream.raw_fd self.old.departures.names.names.items host.now port bytes.now self.old.delays self.old.departures.leaving.items (S.calls self.old.system) result self.new.departures.leaving.items (S.calls self.new.system) }
         ensures lost { Tallied self.old.departures.lost self.new.departures.lost result }
         ensures tallied { Tallied self.old.link self.new.link result }
         ensures call { Gave (Post host.now port bytes.now) result (told_with self.old.disk self.old.accept self.old.receive self.old.link self.old.taken self.old.attached.names) (told_with self.new.disk self.new.accept self.new.receive self.new.link self.new.taken self.new.attached.names) }

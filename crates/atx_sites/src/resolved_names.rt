@@ -1,12 +1,18 @@
 //! Names of hosts that were looked up.
 
-ghost use Rattle.std.specs.Prelude.{◌<◌, ℕ, List, IfSome, length};
-ghost use Rattle.system_calls.specs.Calls.{Calls};
+ghost use Rattle.std.specs.Prelude.{◌≡◌, ◌<◌, ◌≤◌, ◌+◌, ◌++◌, ℕ, List, IfOk, IfSome, OnOk, length, slice_index_or, true};
+ghost use Rattle.std.specs.Duration.{as_nanos};
+ghost use Rattle.std.specs.Net.Grammar.{IsIpText};
+ghost use Rattle.std.specs.Net.ToAddrs.{host_addrs};
+ghost use Rattle.system_calls.specs.Calls.{Calls, then};
+ghost use Rattle.system_calls.specs.Calls.Call.{Monotonic};
 ghost use Rattle.atx_sites.specs.Departures.{IsBare, Looks};
+ghost use Rattle.atx_sites.specs.Names.{AreAnswered, IsAnswered, IsFor, LookedUp, MayReach};
+ghost use Rattle.atx_sites.specs.declared.resolved_names.Name.{Name};
 
 use std::alloc::{AllocError, Global};
 use std::io::{self, ErrorKind};
-use std::net::{IpAddr, SocketAddr};
+use std::net::{HostAddrs, IpAddr, SocketAddr};
 use std::time::Duration;
 use system_calls::system::System;
 
@@ -23,6 +29,20 @@ struct Name {
     port: u16,
     addresses: Vec<SocketAddr>,
     ends: Duration,
+}
+
+impl Name {
+    /// One that was answered at that time.
+    fn new(host: String, port: u16, addresses: Vec<SocketAddr>, at: Duration) -> Name
+        ensures { (result.host ≡ host) × (result.port ≡ port) × (result.addresses ≡ addresses) × (as_nanos result.ends ≤ as_nanos at + 60_000_000_000) }
+    {
+        Name {
+            host,
+            port,
+            addresses,
+            ends: at.saturating_add(Duration::from_secs(KEPT_SECONDS)),
+        }
+    }
 }
 
 /// Names that were looked up in the last 60 seconds, with their answers.
@@ -51,17 +71,37 @@ fn bare(host: &str) -> &str
     }
 }
 
+/// Whether a name is kept for that host and port, and its time isn't over.
+fn is_for(name: &Name, host: &str, port: u16, now: Duration) -> bool
+    ensures { result ≡ true → IsFor host.now port now name.now }
+{
+    name.port == port && name.ends.as_nanos() > now.as_nanos() && name.host.as_str() == host
+}
+
 /// Where a name is kept whose time isn't over.
 fn place(names: &[Name], host: &str, port: u16, now: Duration) -> Option<usize>
-    ensures { IfSome result (λ i. i < length names.now) }
+    ensures { IfSome result (λ i. (i < length names.now) × ((d : Name) → IsFor host.now port now (slice_index_or names.now i d))) }
 {
     for i in 0..names.len() {
-        let name = &names[i];
-        if name.port == port && name.ends > now && name.host.as_str() == host {
+        if is_for(&names[i], host, port, now) {
             return Some(i);
         }
     }
     None
+}
+
+/// Adds all of them, in order.
+#[tactic(auto, using(crate::proofs::NamesKept::no_rest, crate::proofs::NamesKept::one_more))]
+fn gather(mut addresses: HostAddrs, found: &mut Vec<SocketAddr>) -> Result<(), AllocError>
+    ensures { OnOk result (found.new.items ≡ found.old.items ++ host_addrs addresses) }
+{
+    'addresses: for _ in 0..u32::MAX {
+        match addresses.next() {
+            Some(address) => found.push(address)?,
+            None => return Ok(()),
+        }
+    }
+    Err(AllocError)
 }
 
 /// Looks a host up. None is found where that fails.
@@ -72,30 +112,68 @@ fn look_up<S: System>(
     host: &str,
     port: u16,
 ) -> Result<Vec<SocketAddr>, AllocError>
-    ensures { (first : Calls) → Looks host.now port first (S.calls system.old) → Looks host.now port first (S.calls system.new) }
+    ensures looks { (first : Calls) → Looks host.now port first (S.calls system.old) → Looks host.now port first (S.calls system.new) }
+    ensures found { IfOk result (λ v. LookedUp host.now port v.items (S.calls system.old) (S.calls system.new)) }
 {
     let mut found = Vec::new(alloc);
-    if let Ok(addresses) = system.resolve(host, port) {
-        for address in addresses {
-            found.push(address)?;
-        }
+    match system.resolve(host, port) {
+        Ok(addresses) => match gather(addresses, &mut found) {
+            Ok(()) => Ok(found),
+            Err(AllocError) => Err(AllocError),
+        },
+        Err(_) => Ok(found),
     }
-    Ok(found)
 }
 
-/// Keeps a name, in place of the oldest where there are many.
-fn keep(names: &mut Vec<Name>, name: Name) -> Result<(), AllocError> {
+/// Drops the oldest where there are many.
+#[tactic(auto, using(crate::proofs::NamesKept::kept_removed))]
+fn make_room(names: &mut Vec<Name>)
+    ensures { (calls : Calls) → AreAnswered calls names.old.items → AreAnswered calls names.new.items }
+{
     if names.len() >= MOST_NAMES {
         names.remove(0);
     }
-    Ok(names.push(name)?)
+}
+
+/// Keeps a name, in place of the oldest where there are many.
+fn keep(names: &mut Vec<Name>, name: Name) -> Result<(), AllocError>
+    ensures { (calls : Calls) → AreAnswered calls names.old.items → IsAnswered calls name → AreAnswered calls names.new.items }
+{
+    make_room(names);
+    match names.push(name) {
+        Ok(()) => Ok(()),
+        Err(_) => Err(AllocError),
+    }
 }
 
 /// The clock.
 fn clock<S: System>(system: &mut S) -> io::Result<Duration>
-    ensures { (host : List ℕ) (port : ℕ) (first : Calls) → Looks host port first (S.calls system.old) → Looks host port first (S.calls system.new) }
+    ensures looks { (host : List ℕ) (port : ℕ) (first : Calls) → Looks host port first (S.calls system.old) → Looks host port first (S.calls system.new) }
+    ensures reads { S.calls system.new ≡ then (Monotonic result) (S.calls system.old) }
 {
     system.monotonic()
+}
+
+/// Looks a host up, and keeps what was answered.
+fn look_up_and_keep<S: System>(
+    system: &mut S,
+    names: &mut ResolvedNames,
+    host: &str,
+    port: u16,
+) -> io::Result<Vec<SocketAddr>>
+    ensures looks { (first : Calls) → Looks host.now port first (S.calls system.old) → Looks host.now port first (S.calls system.new) }
+    ensures kept { AreAnswered (S.calls system.old) names.old.names.items → AreAnswered (S.calls system.new) names.new.names.items }
+    ensures found { IfOk result (λ v. MayReach host.now port v.items (S.calls system.old) (S.calls system.new)) }
+{
+    let addresses = look_up(system, names.alloc, host, port)?;
+    let answer = Vec::from_slice(names.alloc, addresses.as_slice())?;
+    let host = String::from_str(names.alloc, host)?;
+    let at = clock(system)?;
+    let name = Name::new(host, port, addresses, at);
+    match keep(&mut names.names, name) {
+        Ok(()) => Ok(answer),
+        Err(AllocError) => Err(ErrorKind::OutOfMemory.into()),
+    }
 }
 
 /// The addresses of a name, which is looked up where it isn't kept.
@@ -106,23 +184,45 @@ fn addresses_of_name<S: System>(
     host: &str,
     port: u16,
 ) -> io::Result<Vec<SocketAddr>>
-    ensures { (first : Calls) → Looks host.now port first (S.calls system.old) → Looks host.now port first (S.calls system.new) }
+    ensures looks { (first : Calls) → Looks host.now port first (S.calls system.old) → Looks host.now port first (S.calls system.new) }
+    ensures kept { AreAnswered (S.calls system.old) names.old.names.items → AreAnswered (S.calls system.new) names.new.names.items }
+    ensures found { AreAnswered (S.calls system.old) names.old.names.items → IfOk result (λ v. MayReach host.now port v.items (S.calls system.old) (S.calls system.new)) }
 {
-    let now = clock(system)?;
-    if let Some(at) = place(&names.names, host, port, now) {
-        return Ok(names.names[at].addresses.clone()?);
-    }
-    let addresses = look_up(system, names.alloc, host, port)?;
-    let answer = addresses.clone()?;
-    let ends = clock(system)?.saturating_add(Duration::from_secs(KEPT_SECONDS));
-    let name = Name {
-        host: String::from_str(names.alloc, host)?,
-        port,
-        addresses,
-        ends,
+    let now = match clock(system) {
+        Ok(now) => now,
+        Err(fault) => return Err(fault),
     };
-    keep(&mut names.names, name)?;
-    Ok(answer)
+    match place(&names.names, host, port, now) {
+        Some(at) => Ok(Vec::from_slice(names.alloc, names.names[at].addresses.as_slice())?),
+        None => look_up_and_keep(system, names, host, port),
+    }
+}
+
+/// The address that is an IP address itself.
+fn address_of(alloc: Global, ip: IpAddr, port: u16) -> io::Result<Vec<SocketAddr>>
+    ensures { (host : List ℕ) (old new : Calls) → IsIpText host ip → IfOk result (λ v. MayReach host port v.items old new) }
+{
+    let mut found = Vec::new(alloc);
+    found.push(SocketAddr::new(ip, port))?;
+    Ok(found)
+}
+
+/// The addresses of a host at a port, or none.
+fn addresses_of<S: System>(
+    system: &mut S,
+    names: &mut ResolvedNames,
+    host: &str,
+    port: u16,
+) -> io::Result<Vec<SocketAddr>>
+    ensures kept { AreAnswered (S.calls system.old) names.old.names.items → AreAnswered (S.calls system.new) names.new.names.items }
+    ensures found { (bare : List ℕ) × IsBare host.now bare × Looks bare port (S.calls system.old) (S.calls system.new)
+        × (AreAnswered (S.calls system.old) names.old.names.items → IfOk result (λ v. MayReach bare port v.items (S.calls system.old) (S.calls system.new))) }
+{
+    let host = bare(host);
+    match host.parse::<IpAddr>() {
+        Ok(ip) => address_of(names.alloc, ip, port),
+        Err(_) => addresses_of_name(system, names, host, port),
+    }
 }
 
 /// The addresses of a host at a port, in the order in which they are to be tried. A host that is an IP address, in brackets
@@ -133,15 +233,14 @@ pub(crate) fn addresses<S: System>(
     host: &str,
     port: u16,
 ) -> io::Result<Vec<SocketAddr>>
-    ensures { (bare : List ℕ) × IsBare host.now bare × Looks bare port (S.calls system.old) (S.calls system.new) }
+    ensures kept { AreAnswered (S.calls system.old) names.old.names.items → AreAnswered (S.calls system.new) names.new.names.items }
+    ensures found { (bare : List ℕ) × IsBare host.now bare × Looks bare port (S.calls system.old) (S.calls system.new)
+        × (AreAnswered (S.calls system.old) names.old.names.items → IfOk result (λ v. MayReach bare port v.items (S.calls system.old) (S.calls system.new))) }
 {
-    let host = bare(host);
-    if let Ok(ip) = host.parse::<IpAddr>() {
-        let mut found = Vec::new(names.alloc);
-        found.push(SocketAddr::new(ip, port))?;
-        return Ok(found);
-    }
-    let found = addresses_of_name(system, names, host, port)?;
+    let found = match addresses_of(system, names, host, port) {
+        Ok(found) => found,
+        Err(fault) => return Err(fault),
+    };
     if found.is_empty() {
         return Err(ErrorKind::HostUnreachable.into());
     }

@@ -1,20 +1,22 @@
 use Rattle.std.proofs.Common.{[], inl, refl}
 use Rattle.atx_sites.proofs.DepartureLists.{looked_clock, same_bytes, whole}
+use Rattle.atx_sites.proofs.Comings.{late_by}
 use Rattle.atx_sites.proofs.Leavings.{untried}
+use Rattle.atx_sites.proofs.NamesKept.{reaches_behind}
 use Rattle.atx_sites.proofs.departures.begin_post.Goals as goal
 
 pub returns-in_default-clause-posts : goal.returns-in_default-clause-posts
-returns-in_default-clause-posts g c = (c.addresses.ensures.0, c.addresses.ensures.1, [], _, c.addresses.ensures.2, (c.args.departures.now.leaving.items, whole _, inl (refl, refl, untried _ _)))
+returns-in_default-clause-posts g c = (c.addresses.ensures.found.0, c.addresses.ensures.found.1, [], _, c.addresses.ensures.found.2, (λ h. inl refl), (c.args.departures.now.leaving.items, whole _, inl (refl, refl, untried _ _)))
 
 pub returns-in_default-monotonic-clause-posts : goal.returns-in_default-monotonic-clause-posts
 returns-in_default-monotonic-clause-posts g c =
-    (c.addresses.ensures.0, c.addresses.ensures.1, [], _, looked_clock _ _ _ _ _ _ c.addresses.ensures.2 c.monotonic.ensures, (c.args.departures.now.leaving.items, whole _, inl (refl, refl, untried _ _)))
+    (c.addresses.ensures.found.0, c.addresses.ensures.found.1, [], _, looked_clock _ _ _ _ _ _ c.addresses.ensures.found.2 c.monotonic.ensures, (λ h. inl refl), (c.args.departures.now.leaving.items, whole _, inl (refl, refl, untried _ _)))
 
 pub returns-in_default-from_slice-clause-posts : goal.returns-in_default-from_slice-clause-posts
 returns-in_default-from_slice-clause-posts g c =
-    (c.addresses.ensures.0, c.addresses.ensures.1, [], _, looked_clock _ _ _ _ _ _ c.addresses.ensures.2 c.monotonic.ensures, (c.args.departures.now.leaving.items, whole _, inl (refl, refl, untried _ _)))
+    (c.addresses.ensures.found.0, c.addresses.ensures.found.1, [], _, looked_clock _ _ _ _ _ _ c.addresses.ensures.found.2 c.monotonic.ensures, (λ h. inl refl), (c.args.departures.now.leaving.items, whole _, inl (refl, refl, untried _ _)))
 
 pub returns-clause-posts : goal.returns-clause-posts
 returns-clause-posts g c =
     let posts = same_bytes _ _ c.args.bytes.now _ _ _ _ _ _ c.in-Ok-from_slice.ensures.items c.post_to.ensures.posts in
-    (c.addresses.ensures.0, c.addresses.ensures.1, _, _, looked_clock _ _ _ _ _ _ c.addresses.ensures.2 c.monotonic.ensures, posts)
+    (c.in-Ok.ensures.found.0, c.in-Ok.ensures.found.1, _, _, looked_clock _ _ _ _ _ _ c.in-Ok.ensures.found.2 c.monotonic.ensures, (λ h. reaches_behind _ _ _ _ _ _ (c.in-Ok.ensures.found.3 h) (late_by _ _ _ c.monotonic.ensures)), posts)

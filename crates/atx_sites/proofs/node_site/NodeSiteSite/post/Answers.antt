@@ -6,8 +6,8 @@ use Rattle.atx_sites.proofs.node_site.NodeSiteSite.post.Goals as goal
 
 pub returns-clause-posts : goal.returns-clause-posts
 returns-clause-posts g c =
-    posted_later g.S.Stream.AsRawFd.raw_fd c.args.host.now c.args.port c.args.bytes.now c.args.self.now.delays c.args.self.now.departures.leaving.items (g.S.System.calls c.args.self.now.system)
+    posted_later g.S.Stream.AsRawFd.raw_fd c.args.self.now.departures.names.names.items c.args.host.now c.args.port c.args.bytes.now c.args.self.now.delays c.args.self.now.departures.leaving.items (g.S.System.calls c.args.self.now.system)
     c.counted.result c.post-answer.new.departures.leaving.items (g.S.System.calls c.is_held.new.system) (g.S.System.calls c.post-answer.new.system)
     (subst (λ held. IfHeld held c.args.host.now c.args.port c.args.bytes.now c.args.self.now.delays (g.S.System.calls c.args.self.now.system) (g.S.System.calls c.is_held.new.system)) c.if-is_held.false c.is_held.ensures)
-    (posts_counted g.S.Stream.AsRawFd.raw_fd c.args.host.now c.args.port c.args.bytes.now c.args.self.now.departures.leaving.items (g.S.System.calls c.is_held.new.system) c.post-answer.result
+    (posts_counted g.S.Stream.AsRawFd.raw_fd c.args.self.now.departures.names.names.items c.args.host.now c.args.port c.args.bytes.now c.args.self.now.departures.leaving.items (g.S.System.calls c.is_held.new.system) c.post-answer.result
     c.counted.result c.post-answer.new.departures.leaving.items (g.S.System.calls c.post-answer.new.system) c.counted.ensures.as_was c.counted.ensures.ok c.post-answer.ensures.posts)
