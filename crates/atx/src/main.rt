@@ -24,6 +24,7 @@ const TIMER_MILLIS: u64 = 1000;
 const PATIENCE_SECONDS: u32 = 60;
 
 /// What of the words is the machine's own.
+#[derive(Clone, Copy)]
 struct Options {
     /// Turns are counted: then it has no timer.
     counts_turns: bool,
