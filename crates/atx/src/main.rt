@@ -40,7 +40,7 @@ fn is_option(word: &str, option: &str) -> bool {
 }
 
 /// The options among the words.
-fn options(words: io::Result<Args>) -> io::Result<Options> {
+fn read_options(words: io::Result<Args>) -> io::Result<Options> {
     let mut options = Options {
         counts_turns: false,
         logs: false,
@@ -84,7 +84,7 @@ fn tell<S: System + Drop, E: Sink>(
 fn main(rt: HostRuntime) -> ExitCode {
     let mut machine = NodeSite::new(rt.alloc(), RealSystem::new(&rt));
     let mut log = None;
-    let words = match options(env::args(&rt)) {
+    let words = match read_options(env::args(&rt)) {
         Ok(options) => {
             if !options.counts_turns {
                 machine.keep_time(TIMER_MILLIS);
