@@ -28,6 +28,8 @@ import tempfile
 import threading
 import time
 
+from full import write
+
 TOP = os.path.dirname(os.path.dirname(os.path.abspath(__file__)))
 ATX = os.environ.get("ATX", os.path.join(TOP, "crates", "atx", "out", "atx"))
 NODE, PEER = 9311, 9312
@@ -355,35 +357,6 @@ def replaying():
         mine = (number + 1) // 2
         lines += [f"begin {node} {3 + number % 3} 60000", "flush 99", f"work {node} 1-{mine} {6 + number % 3} d prepared", "flush 99", f"commit {node} 1-{mine}", "flush 99"]
     return ("\n".join(lines) + "\n").encode()
-
-
-def text(value):
-    return len(value).to_bytes(2, "big") + value
-
-
-def decided(addresses):
-    """The frame of a decision: an open gate, its length, and root 1-1 with a seat for each address."""
-    seats = b"".join(number.to_bytes(2, "big") + text(b"h" * length) + text(b"") for number, length in enumerate(addresses, 1))
-    body = b"\x06" + (1).to_bytes(4, "big") * 2 + len(addresses).to_bytes(2, "big") + seats
-    return b"\x01" + len(body).to_bytes(4, "big") + body
-
-
-def write(path, size):
-    """A journal of so many bytes: its mark, decisions of one root, and a shut gate."""
-    mark = b"\x01\x00\x00\x00\x05\x0b\x00\x00\x00\x00"
-    whole, first = decided([2048] * SEATS), decided([2048] * (SEATS - 1))
-    count, rest = divmod(size - len(mark) - 1, len(whole))
-    count, rest = count - 1, rest + len(whole) - len(first)
-    # two smaller ones fill what is left: the last has as many seats as it takes, of as many bytes
-    seats = max(1, -(-(rest - 16) // 2054))
-    lengths = [(rest - 16 - 6 * seats) // seats + (at < (rest - 16 - 6 * seats) % seats) for at in range(seats)]
-    with open(path, "wb") as file:
-        file.write(mark)
-        for _ in range(count):
-            file.write(whole)
-        file.write(first + decided(lengths) + b"\x00")
-    if os.path.getsize(path) != size:
-        raise Unfit(f"the journal has {os.path.getsize(path)} bytes, not {size}")
 
 
 def starting(folder, size):

@@ -49,9 +49,11 @@ printed() {
   failed=1
 }
 
-# `commits` has the initiator begin a transaction at the coordinator, have the participant work in it, and commit it.
+# `commits [PORT]` has the initiator begin a transaction at the coordinator, have the participant work in it, and commit it. It listens
+# at the port, 9003 where none is given; its base is at 9003.
 commits() {
-  "$top/atx" initiator --listen 127.0.0.1:9003 --journal "$room/initiator" --turns 0 >"$room/initiator.out" <<'LINES'
+  "$top/atx" initiator --listen "127.0.0.1:${1:-9003}" --base http://127.0.0.1:9003 --journal "$room/initiator" --turns 0 \
+    >"$room/initiator.out" <<'LINES'
 begin http://127.0.0.1:9001 60000
 wait
 wait

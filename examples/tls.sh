@@ -88,17 +88,7 @@ serves participant 2
 printed clients 'a client of plain HTTP: 000' 'a client without a certificate: 000' "a client with another authority's: 000" \
   'a client with a certificate: 202'
 
-"$top/atx" initiator --listen 127.0.0.1:9103 --base http://127.0.0.1:9003 --journal "$room/initiator" --turns 0 \
-  >"$room/initiator.out" <<'LINES'
-begin http://127.0.0.1:9001 60000
-wait
-wait
-work 1 http://127.0.0.1:9002 d prepared seat 12A
-wait
-commit 1
-wait
-LINES
-ended initiator $?
+commits 9103
 
 # the participant hears of the decision beside the initiator
 for waited in $(seq 100); do
