@@ -154,6 +154,13 @@ impl Transactions {
         })
     }
 
+    /// The transactions, in the order of making.
+    pub fn iter(&self) -> Items<'_, Transaction>
+        ensures { result ≡ self.now }
+    {
+        self.live.iter()
+    }
+
     /// How many transactions live.
     pub fn len(&self) -> usize
         ensures { result ≡ length self.now }

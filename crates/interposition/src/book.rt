@@ -29,6 +29,7 @@ use at_base::outs::{Effects, Outs};
 use at_base::record::Record;
 use at_base::target::{Seat, Target};
 use at_base::text::Text;
+use by_id::place::Items;
 use by_id::plan;
 use completion_at::activities::{Activities, refuses_as_the_model};
 use completion_at::activity::Activity;
@@ -209,6 +210,34 @@ impl Book {
     {
         recovers_as_the_model();
         Book::made(alloc, base, live, done, incarnation)
+    }
+
+    /// The base of the node.
+    pub fn base(&self) -> &Text
+        ensures { result.now ≡ self.now.base }
+    {
+        &self.moment.base
+    }
+
+    /// The transactions, in the order of making.
+    pub fn transactions(&self) -> Items<'_, Transaction>
+        ensures { result ≡ self.now.transactions }
+    {
+        self.transactions.iter()
+    }
+
+    /// The leaves, in the order of making.
+    pub fn leaves(&self) -> Items<'_, Leaf>
+        ensures { result ≡ self.now.leaves }
+    {
+        self.leaves.iter()
+    }
+
+    /// The activities, in the order of making.
+    pub fn activities(&self) -> Items<'_, Activity>
+        ensures { result ≡ self.now.activities }
+    {
+        self.activities.iter()
     }
 
     /// The id that the next item gets; none where the counter is spent.

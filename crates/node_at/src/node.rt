@@ -1,6 +1,7 @@
 //! A node.
 
 ghost use Rattle.std.specs.Prelude.{◌≡◌};
+ghost use Rattle.decision_log.specs.KeptState.{known};
 ghost use Rattle.node_at.specs.State.{seen};
 
 use crate::role::Role;
@@ -38,6 +39,27 @@ impl Drop for Node {
 }
 
 impl Node {
+    /// What the node knows.
+    pub fn book(&self) -> &Book
+        ensures { result.now ≡ (seen self.now).book }
+    {
+        &self.book
+    }
+
+    /// What it keeps of its journal's records.
+    pub fn kept(&self) -> &Kept
+        ensures { known result.now ≡ (seen self.now).kept }
+    {
+        &self.kept
+    }
+
+    /// Where its journal stands.
+    pub fn journal(&self) -> &Journal
+        ensures { result.now ≡ (seen self.now).journal }
+    {
+        &self.journal
+    }
+
     /// The incarnation that the node came up in.
     pub fn incarnation(&self) -> u32
         ensures { result ≡ (seen self.now).book.incarnation }

@@ -24,6 +24,7 @@ use at_base::notice::{Kind, is_kind};
 use at_base::outs::{Effects, Ending, OutList, Outs};
 use at_posts::answers::accepted;
 use by_id::list::ById;
+use by_id::place::Items;
 use by_id::plan::{Branch, Plan};
 use std::alloc::{AllocError, Global};
 use std::marker::Model;
@@ -70,6 +71,13 @@ impl Leaves {
         Ok(Leaves {
             live: ById::from_vec(items)?,
         })
+    }
+
+    /// The leaves, in the order of making.
+    pub fn iter(&self) -> Items<'_, Leaf>
+        ensures { result ≡ self.now }
+    {
+        self.live.iter()
     }
 
     /// How many leaves live.
