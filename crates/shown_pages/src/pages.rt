@@ -1,6 +1,6 @@
 //! The texts of pages.
 
-ghost use Rattle.std.specs.Prelude.{ℕ, List, ◌≡◌, IfOk, string_bytes};
+ghost use Rattle.std.specs.Prelude.{ℕ, List, ◌≡◌, IfOk};
 ghost use Rattle.shown_pages.specs.declared.page.Counts.{Counts as Counted};
 ghost use Rattle.shown_pages.specs.declared.page.Page.{Page as Asked};
 
@@ -12,6 +12,6 @@ pub trait Pages {
     ghost says: { Self → Asked → Counted → List ℕ };
 
     /// The text of a page, with what a machine counted.
-    fn text(&self, alloc: Global, page: Page, counts: &Counts) -> Result<String, AllocError>
-        ensures { IfOk result (λ text. string_bytes text ≡ says self.now page counts.now) };
+    fn text(&self, alloc: Global, page: Page, counts: &Counts) -> Result<Vec<u8>, AllocError>
+        ensures { IfOk result (λ text. text.items ≡ says self.now page counts.now) };
 }

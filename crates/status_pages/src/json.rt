@@ -51,7 +51,7 @@ fn address(alloc: Global, endpoint: &Option<Epr>) -> Result<Value, AllocError>
 }
 
 /// Whether a node waits for who is in this state.
-fn is_awaited(state: State) -> bool
+pub(crate) fn is_awaited(state: State) -> bool
     ensures { result ≡ is_awaited state }
 {
     match state {

@@ -2,4 +2,6 @@
 #![tactic(auto)]
 
 mod json;
+mod overview;
+pub mod view;
 mod words;
