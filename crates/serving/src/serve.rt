@@ -17,8 +17,8 @@ use at_base::text::Text;
 use node_at::fault::StartFault;
 use node_at::node::Node;
 use node_at::start::start;
+use shown_pages::showing::Showing;
 use site_model::sink::{Sink, write_all};
-use site_model::site::Site;
 use std::alloc::{AllocError, Global};
 
 /// The base of a node: this one, or else that of its address.
@@ -52,7 +52,7 @@ fn tell_fault<K: Sink>(alloc: Global, fault: &StartFault, sink: &mut K) -> Ended
 
 /// Prints that the node is up, and attends to its lines and turns.
 #[tactic(auto, using(crate::proofs::Sessions::rose_later, crate::proofs::StartLines::comes, crate::proofs::StartLines::comes_untold, crate::proofs::StartLines::comes_partly))]
-fn attend<K: Sink, H: Site>(
+fn attend<K: Sink, H: Showing>(
     node: Node,
     alloc: Global,
     service: &Service<'_>,
@@ -72,6 +72,7 @@ fn attend<K: Sink, H: Site>(
     }
     let mut session = Session {
         node,
+        role: service.role,
         made: Vec::new(alloc),
         unmet: Vec::new(alloc),
         met: true,
@@ -83,7 +84,7 @@ fn attend<K: Sink, H: Site>(
 /// Serves: opens the journal's files and the listener, starts the node, prints `up` and its incarnation, and then does line after
 /// line and turn after turn, and prints what each brings about.
 #[tactic(auto, using(crate::proofs::StartLines::unopened, crate::proofs::StartLines::opened, crate::proofs::StartLines::unstarted, crate::proofs::StartLines::came_up))]
-pub fn serve<K: Sink, H: Site>(
+pub fn serve<K: Sink, H: Showing>(
     alloc: Global,
     service: &Service<'_>,
     sink: &mut K,

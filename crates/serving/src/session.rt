@@ -17,15 +17,19 @@ use crate::service_end::{Ended, done_by};
 use at_base::id::Id;
 use at_base::outs::{Effect, Told};
 use node_at::node::Node;
+use node_at::role::Role;
 use schedules::initiator_line::InitiatorLine;
+use shown_pages::showing::Showing;
 use site_model::sink::{Sink, write_all};
-use site_model::site::Site;
+use status_pages::view::View;
 use std::alloc::{AllocError, Global};
 
 /// A node that is up, and what is noted of its lines.
 #[derive(Drop)]
 pub struct Session {
     pub node: Node,
+    /// Its role, as its pages show it.
+    pub role: Role,
     /// Of each line that makes an activity its id, unless it was refused.
     pub made: Vec<Option<Id>>,
     /// The activities of which a work was refused, by their numbers, from 1 on.
@@ -133,9 +137,9 @@ fn make_room(
 }
 
 impl Session {
-    /// Does what a line asks.
-    #[tactic(auto, using(crate::proofs::Sessions::asks, crate::proofs::Sessions::turns))]
-    fn answer<H: Site>(&mut self, alloc: Global, request: &Request, site: &mut H) -> Answer
+    /// Does what a line asks. Before a turn the machine shows the node's pages to who asks for them.
+    #[tactic(auto, using(crate::proofs::Sessions::asks, crate::proofs::ShownTurns::shown_turns))]
+    fn answer<H: Showing>(&mut self, alloc: Global, request: &Request, site: &mut H) -> Answer
         requires { IsNode (seen self.old.node) }
         ensures does { Does H.told self.old.node.role request.now result (seen self.old.node) (seen self.new.node) site.old site.new }
         ensures node { IsNode (seen self.new.node) }
@@ -146,7 +150,12 @@ impl Session {
         match request {
             Request::Local(local) => Answer::Local(self.node.local(alloc, site, local)),
             Request::Stale => Answer::Stale,
-            Request::Wait => Answer::Turn(self.node.turn(alloc, site)),
+            Request::Wait => {
+                let node = &self.node;
+                let role = self.role;
+                site.show(&View { role, node });
+                Answer::Turn(self.node.turn(alloc, site))
+            }
         }
     }
 
@@ -232,7 +241,7 @@ impl Session {
     /// Does a line, or a turn where there is none, and prints what it brought about. Says how serving ends behind it, where it
     /// does. A `wait` is one turn, and perhaps not through behind it.
     #[tactic(auto, using(crate::proofs::Sessions::takes, crate::proofs::Sessions::idles, crate::proofs::Sessions::room_kept))]
-    fn take<K: Sink, H: Site>(
+    fn take<K: Sink, H: Showing>(
         &mut self,
         alloc: Global,
         item: Option<&InitiatorLine>,
@@ -259,7 +268,7 @@ impl Session {
     }
 
     /// Does line after line, and then so many turns, and prints what each brings about.
-    pub fn attend<K: Sink, H: Site>(
+    pub fn attend<K: Sink, H: Showing>(
         &mut self,
         alloc: Global,
         lines: &[InitiatorLine],
