@@ -125,17 +125,17 @@ HasBase listen = (to : PostTo) → post_to_of (codes "http://" ++ listen) ≡ So
 abbrev pub behind : List ℕ → List ℕ → Option (List ℕ)
 behind prefix bytes = if bytes_eq (take (length prefix) bytes) prefix then Some (drop (length prefix) bytes) else None
 
-abbrev pub is_address_there : Option (List ℕ) → Bool
-is_address_there (Some address) = is_address address
-is_address_there None = false
-
--- how others reach a node: `http://` and an address
-abbrev pub is_base : List ℕ → Bool
-is_base base = is_address_there (behind (codes "http://") base)
-
 -- every address of a machine (RFC 1122, section 3.2.1.3; RFC 4291, section 2.5.2), at which nobody else reaches it
 abbrev pub is_wildcard : List ℕ → Bool
 is_wildcard listen = is_some (behind (codes "0.0.0.0:") listen) || is_some (behind (codes "[::]:") listen)
+
+-- how others reach a node: `http://` and an address at which they do
+abbrev pub is_reachable : Option (List ℕ) → Bool
+is_reachable (Some address) = not (is_wildcard address) && is_address address
+is_reachable None = false
+
+abbrev pub is_base : List ℕ → Bool
+is_base base = is_reachable (behind (codes "http://") base)
 
 -- others reach the node: at the base that is given, or else where it listens
 abbrev pub is_reached : List ℕ → Option (List ℕ) → Bool

@@ -60,7 +60,7 @@ no_journal_base = codes "error: invalid value for '--hex <BASE>'\n  [an http URL
 
 -- or what the address, the base and the number of a node that serves are
 unfoldable pub no_serving : List ℕ
-no_serving = codes "error: invalid value for '--listen <ADDR>', '--base <URL>' or '--turns <N>'\n  [ADDR: HOST:PORT of at most 1000 bytes, as http URLs are normalized, PORT 1 to 65535; URL: http:// and such an ADDR; N: 0 to 4294967295]\n\nFor more information, try '--help'.\n"
+no_serving = codes "error: invalid value for '--listen <ADDR>', '--base <URL>' or '--turns <N>'\n  [ADDR: HOST:PORT of at most 1000 bytes, as http URLs are normalized, PORT 1 to 65535; URL: http:// and such an ADDR, not 0.0.0.0 or [::]; N: 0 to 4294967295]\n\nFor more information, try '--help'.\n"
 
 -- or that nobody reaches a node at every address of its machine
 unfoldable pub no_base : List ℕ

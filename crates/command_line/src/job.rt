@@ -258,21 +258,26 @@ fn role_of(name: &str) -> Option<Role>
     }
 }
 
-/// Whether others reach a node there.
-fn is_base(alloc: Global, base: &str) -> Result<bool, AllocError>
-    ensures { IfOk result (λ is. is ≡ is_base base.now) }
-{
-    match base.strip_prefix("http://") {
-        Some(address) => is_address(alloc, address),
-        None => Ok(false),
-    }
-}
-
 /// Whether that is every address of a machine.
 fn is_wildcard(listen: &str) -> bool
     ensures { result ≡ is_wildcard listen.now }
 {
     listen.strip_prefix("0.0.0.0:").is_some() || listen.strip_prefix("[::]:").is_some()
+}
+
+/// Whether others reach a node there.
+fn is_base(alloc: Global, base: &str) -> Result<bool, AllocError>
+    ensures { IfOk result (λ is. is ≡ is_base base.now) }
+{
+    match base.strip_prefix("http://") {
+        Some(address) => {
+            if is_wildcard(address) {
+                return Ok(false);
+            }
+            is_address(alloc, address)
+        }
+        None => Ok(false),
+    }
 }
 
 /// Whether others reach a node that listens there, under the base that is given or else there.

@@ -162,7 +162,7 @@ fn no_serving() -> &'static str
     ensures { result.now ≡ no_serving }
 {
     "error: invalid value for '--listen <ADDR>', '--base <URL>' or '--turns <N>'\n  \
-[ADDR: HOST:PORT of at most 1000 bytes, as http URLs are normalized, PORT 1 to 65535; URL: http:// and such an ADDR; N: 0 to 4294967295]\n\n\
+[ADDR: HOST:PORT of at most 1000 bytes, as http URLs are normalized, PORT 1 to 65535; URL: http:// and such an ADDR, not 0.0.0.0 or [::]; N: 0 to 4294967295]\n\n\
 For more information, try '--help'.\n"
 }
 

@@ -37,7 +37,7 @@ fn serves<H: Site>(
 
 const NO_SERVING: &str =
     "error: invalid value for '--listen <ADDR>', '--base <URL>' or '--turns <N>'\n  \
-[ADDR: HOST:PORT of at most 1000 bytes, as http URLs are normalized, PORT 1 to 65535; URL: http:// and such an ADDR; N: 0 to 4294967295]\n\n\
+[ADDR: HOST:PORT of at most 1000 bytes, as http URLs are normalized, PORT 1 to 65535; URL: http:// and such an ADDR, not 0.0.0.0 or [::]; N: 0 to 4294967295]\n\n\
 For more information, try '--help'.\n";
 
 const NO_BASE: &str =
@@ -153,6 +153,18 @@ const ROWS: &[(&str, &str, u8, &str)] = &[
     ),
     (
         "coordinator --listen [::]:1 --journal j --base http://h.example",
+        "",
+        2,
+        NO_SERVING,
+    ),
+    (
+        "coordinator --listen 0.0.0.0:9001 --journal j --base http://0.0.0.0:9001",
+        "",
+        2,
+        NO_SERVING,
+    ),
+    (
+        "coordinator --listen 127.0.0.1:9001 --journal j --base http://[::]:9001",
         "",
         2,
         NO_SERVING,

@@ -44,5 +44,7 @@ fn a_journal_on_the_disk_is_printed(rt: HostRuntime) -> Result<(), Fail> {
     let name = name_of(&rt)?;
     let right = is_printed(&rt, name.as_str())?;
     assert!(rt; right, "disk");
+    let endless = prints(&rt, "/dev/zero", 6, "");
+    assert!(rt; endless, "no regular file");
     Ok(())
 }

@@ -2,6 +2,7 @@
 
 use httparse::Status;
 use httparse::spans::{EMPTY_HEADER_SPAN, HeaderSpan, Span, parse_request};
+use memchr::{memchr, memmem};
 use std::alloc::AllocError;
 
 /// The most fields of a head in which its action is looked for.
@@ -57,22 +58,42 @@ fn action_of<'b>(bytes: &'b [u8], fields: &[HeaderSpan]) -> &'b [u8] {
     b""
 }
 
-/// Adds the method, the target and, where its head tells it, the message of a request. What doesn't begin with a head of at
-/// most 64 fields is no request that is shown.
+/// The text of the first element of this name, whatever its prefix is; none where there isn't one, or it isn't whole.
+fn text_of<'b>(bytes: &'b [u8], name: &[u8]) -> &'b [u8] {
+    let Some(start) = memmem::find(bytes, name) else {
+        return b"";
+    };
+    let behind = between(bytes, start, bytes.len());
+    let Some(tag) = memchr(b'>', behind) else {
+        return b"";
+    };
+    let text = between(behind, tag.saturating_add(1), behind.len());
+    match memchr(b'<', text) {
+        Some(end) => between(text, 0, end),
+        None => b"",
+    }
+}
+
+/// Adds a word behind a space, where there is one.
+fn push_word(line: &mut String, word: &[u8]) -> Result<(), AllocError> {
+    if word.is_empty() {
+        return Ok(());
+    }
+    line.push(' ')?;
+    push_visible(line, word)
+}
+
+/// Adds the method, the target and, where they are told, the message of a request and its id (WS-Addressing 1.0 Core, section
+/// 3.1). What doesn't begin with a head of at most 64 fields is no request that is shown.
 pub(crate) fn push_request(line: &mut String, bytes: &[u8]) -> Result<(), AllocError> {
     let mut fields = [EMPTY_HEADER_SPAN; FIELDS];
     let Ok(Status::Complete(head)) = parse_request(bytes, &mut fields) else {
         return line.push_str("no request");
     };
     push_visible(line, bytes_at(bytes, head.method))?;
-    line.push(' ')?;
-    push_visible(line, bytes_at(bytes, head.path))?;
-    let action = action_of(bytes, &fields);
-    if !action.is_empty() {
-        line.push(' ')?;
-        push_visible(line, action)?;
-    }
-    Ok(())
+    push_word(line, bytes_at(bytes, head.path))?;
+    push_word(line, action_of(bytes, &fields))?;
+    push_word(line, text_of(bytes, b"MessageID"))
 }
 
 /// The status of an answer, three digits behind its version. None of an interim one.

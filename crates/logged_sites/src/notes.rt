@@ -6,8 +6,8 @@ use site_model::sink::Sink;
 use std::alloc::{AllocError, Global};
 use std::time::Clock;
 
-/// The most bytes of a request that are looked at.
-const HEAD_BYTES: usize = 8192;
+/// The most bytes of a request that are looked at: a head, and an envelope's headers.
+const LOOKED_AT: usize = 16_384;
 
 /// What is told of a machine's calls, where there is a log.
 #[derive(Drop)]
@@ -88,12 +88,17 @@ impl<K: Sink + Drop, C: Clock + Drop> Notes<K, C> {
         }
     }
 
-    /// A record was ended in a file: the journal goes on there.
+    /// A record was ended in a file: the journal goes on there, which was written anew if it was another before.
     pub(crate) fn goes_on(&mut self, file: u8) {
-        if self.file != Some(file) {
-            self.file = Some(file);
-            self.fact("the journal goes on in file", u64::from(file));
+        match self.file {
+            None => self.fact("the journal goes on in file", u64::from(file)),
+            Some(before) => {
+                if before != file {
+                    self.fact("the journal was written anew in file", u64::from(file));
+                }
+            }
         }
+        self.file = Some(file);
     }
 
     /// So many answers and posts were lost.
@@ -112,7 +117,7 @@ impl<K: Sink + Drop, C: Clock + Drop> Notes<K, C> {
 
     /// Bytes of a request came.
     pub(crate) fn hear(&mut self, bytes: &[u8]) {
-        let room = HEAD_BYTES.saturating_sub(self.asked.len());
+        let room = LOOKED_AT.saturating_sub(self.asked.len());
         let count = room.min(bytes.len());
         if self.log.is_some() && !self.is_cut {
             self.is_cut = self.asked.extend_from_slice(&bytes[..count]).is_err();
