@@ -29,6 +29,7 @@ struct Options {
     /// Turns are counted: then it has no timer.
     counts_turns: bool,
     logs: bool,
+    shows: bool,
 }
 
 /// Whether a word is this option, alone or with its value behind `=`.
@@ -44,10 +45,12 @@ fn read_options(words: io::Result<Args>) -> io::Result<Options> {
     let mut options = Options {
         counts_turns: false,
         logs: false,
+        shows: false,
     };
     for word in words? {
         options.counts_turns = options.counts_turns || is_option(word.as_str(), "--turns");
         options.logs = options.logs || is_option(word.as_str(), "--log");
+        options.shows = options.shows || is_option(word.as_str(), "--status");
     }
     Ok(options)
 }
@@ -80,7 +83,7 @@ fn tell<S: System + Drop, E: Sink>(
     }
 }
 
-/// The machine has a timer of its own unless turns are counted, and a log where one is asked for.
+/// The machine has a timer of its own unless turns are counted, and a log and pages where they are asked for.
 fn main(rt: HostRuntime) -> ExitCode {
     let mut machine = NodeSite::new(rt.alloc(), RealSystem::new(&rt));
     let mut log = None;
@@ -88,6 +91,9 @@ fn main(rt: HostRuntime) -> ExitCode {
         Ok(options) => {
             if !options.counts_turns {
                 machine.keep_time(TIMER_MILLIS);
+            }
+            if options.shows {
+                machine.show_pages();
             }
             if options.logs {
                 log = Some(Log::new(rt.alloc(), Writing::new(rt.stderr(), 0), &rt));

@@ -82,7 +82,7 @@ silent name =
 
 -- `NAME --listen ADDR [--base URL] --journal F [--turns N] [--log]`
 abbrev pub serving : Text → App
-serving name = with_rule (silent name) (flag (codes "log"))
+serving name = with_rule (with_rule (silent name) (flag (codes "log"))) (flag (codes "status"))
 
 -- with the command that posts
 abbrev pub posting : App

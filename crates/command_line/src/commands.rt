@@ -214,6 +214,14 @@ fn log<'a>(alloc: Global) -> Arg<'a>
     flag(alloc, "log").help("Write a line to standard error of each request, answer and post")
 }
 
+/// `--status`.
+fn status<'a>(alloc: Global) -> Arg<'a>
+    ensures rule { rule_of result ≡ flag (codes "status") }
+    ensures local { result.global ≡ false }
+{
+    flag(alloc, "status").help("Show what the node is and holds at /, /status and /healthz")
+}
+
 /// `NAME --listen ADDR [--base URL] --journal F [--turns N]`.
 fn silent<'a>(alloc: Global, name: &'a str, about: &'a str) -> Result<Command<'a>, AllocError>
     ensures { IfOk result (IsCommand (silent name.entry.now)) }
@@ -226,11 +234,11 @@ fn silent<'a>(alloc: Global, name: &'a str, about: &'a str) -> Result<Command<'a
         .arg(turns(alloc))
 }
 
-/// With `--log`.
+/// With `--log` and `--status`.
 fn serving<'a>(alloc: Global, name: &'a str, about: &'a str) -> Result<Command<'a>, AllocError>
     ensures { IfOk result (IsCommand (serving name.entry.now)) }
 {
-    silent(alloc, name, about)?.arg(log(alloc))
+    silent(alloc, name, about)?.arg(log(alloc))?.arg(status(alloc))
 }
 
 /// `coordinator ..`.

@@ -16,8 +16,8 @@ use schedules::line::{BadLine, ScheduleError};
 use serving::serve::serve;
 use serving::service::Service;
 use serving::service_end::Ended;
+use shown_pages::showing::Showing;
 use site_model::sink::Sink;
-use site_model::site::Site;
 use site_model::source::{ReadFault, Source, read_all};
 use std::alloc::Global;
 
@@ -70,7 +70,7 @@ fn role_of(role: Role) -> Served
 
 /// Serves these lines and so many turns, and gives the status.
 #[tactic(auto, using(crate::proofs::Servings::sink_failed))]
-pub(crate) fn attend<K: Sink, H: Site>(
+pub(crate) fn attend<K: Sink, H: Showing>(
     alloc: Global,
     serving: &Serving<'_>,
     lines: &[InitiatorLine],
@@ -109,7 +109,7 @@ fn refuse<K: Sink>(alloc: Global, bad: BadLine, sink: &mut K) -> u8
 
 /// Reads the lines of an initiator, all of them, and serves them.
 #[tactic(auto, using(crate::proofs::Servings::initiated, crate::proofs::Servings::refused, crate::proofs::Servings::unread))]
-pub(crate) fn initiate<S: Source, K: Sink, H: Site>(
+pub(crate) fn initiate<S: Source, K: Sink, H: Showing>(
     alloc: Global,
     serving: &Serving<'_>,
     source: &mut S,
@@ -138,7 +138,7 @@ pub(crate) fn initiate<S: Source, K: Sink, H: Site>(
 }
 
 /// Serves a node, and gives the status.
-pub(crate) fn serve_node<S: Source, K: Sink, H: Site>(
+pub(crate) fn serve_node<S: Source, K: Sink, H: Showing>(
     alloc: Global,
     serving: &Serving<'_>,
     source: &mut S,

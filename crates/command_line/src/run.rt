@@ -31,8 +31,8 @@ use envelope_cmd::output::Printed;
 use journal_cmd::files::Files;
 use journal_cmd::journal::{journal, journal_line};
 use net_replay::replay_error::ReplayError;
+use shown_pages::showing::Showing;
 use site_model::sink::{Sink, write_all};
-use site_model::site::Site;
 use site_model::source::{ReadFault, Source, read_all};
 use std::alloc::{AllocError, Global};
 
@@ -250,7 +250,7 @@ fn filter<S: Source, K: Sink>(
 /// `coordinator`, `participant` and `initiator` serve a node (`serving`), the last after it has read its lines from the source.
 /// But for these and for `tick` the site stays as it is.
 #[tactic(auto, using(crate::proofs::Words::unknown_said, crate::proofs::Summaries::few_steps, crate::proofs::Servings::unread_by))]
-pub fn run<S: Source, K: Sink, E: Sink, F: Files, H: Site>(
+pub fn run<S: Source, K: Sink, E: Sink, F: Files, H: Showing>(
     alloc: Global,
     words: &[String],
     source: &mut S,

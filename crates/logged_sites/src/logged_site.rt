@@ -5,6 +5,8 @@ ghost use Rattle.std.specs.Prelude.{◌≡◌};
 use crate::departing::Departing;
 use crate::log::Log;
 use crate::notes::Notes;
+use shown_pages::pages::Pages;
+use shown_pages::showing::Showing;
 use site_model::sink::Sink;
 use site_model::site::{AttachFailed, Site, Taken};
 use site_model::source::Failed;
@@ -120,5 +122,12 @@ impl<H: Site + Departing + Drop, K: Sink + Drop, C: Clock + Drop> Site for Logge
 
     fn now(&mut self) -> u64 {
         self.site.now()
+    }
+}
+
+impl<H: Showing + Departing + Drop, K: Sink + Drop, C: Clock + Drop> Showing for LoggedSite<H, K, C> {
+    fn show<P: Pages>(&mut self, pages: &P) {
+        self.notes.losses(self.site.lost());
+        self.site.show(pages);
     }
 }
