@@ -7,6 +7,7 @@ ghost use Rattle.atx_sites.specs.LinkCalls.{Later};
 
 use crate::deadlines::left;
 use crate::framing::{Stage, come_to};
+use crate::pages::page_of;
 use httparse::spans::HeaderSpan;
 use libc::net::POLLIN;
 use libc::types::pollfd;
@@ -80,6 +81,11 @@ impl<C> Arriving<C> {
     /// Whether a web page sent it.
     pub(crate) fn is_foreign(&self) -> bool {
         self.stage == Stage::Foreign
+    }
+
+    /// Whether its request is whole, and asks for a page.
+    pub(crate) fn asks_page(&self) -> bool {
+        self.stage == Stage::Whole && page_of(self.bytes.as_slice()).is_some()
     }
 
     /// Whether its turn may come: its request is whole, it ended or failed, or its time is over.

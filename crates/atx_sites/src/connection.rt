@@ -13,8 +13,11 @@ ghost use Rattle.atx_sites.specs.declared.troubles.Step.TheVariants as steps;
 use crate::arriving::{Arriving, Rest, read_on};
 use crate::deadlines::{earlier, millis_until};
 use crate::departures::{self, Departures};
+use crate::pages::show_all;
 use crate::waiting::{self, Waiting, accept_all, read_found};
 use libc::types::pollfd;
+use shown_pages::page::Counts;
+use shown_pages::pages::Pages;
 use std::alloc::{AllocError, Global};
 use std::io::{self, ErrorKind};
 use std::os::fd::AsRawFd;
@@ -40,9 +43,13 @@ pub struct Connection<L, C> {
     alloc: Global,
     pub(crate) listener: Option<L>,
     pub(crate) served: Option<Served<C>>,
-    waiting: Waiting<C>,
+    pub(crate) waiting: Waiting<C>,
     /// What the system is to wait for; it keeps its room.
     pub(crate) asks: Vec<pollfd>,
+    /// When the wait for a turn is over that has begun.
+    until: Option<Duration>,
+    /// Since when pages are shown.
+    since: Option<Duration>,
 }
 
 impl<L: Drop, C: AsRawFd + Drop> Connection<L, C> {
@@ -56,6 +63,8 @@ impl<L: Drop, C: AsRawFd + Drop> Connection<L, C> {
             served: None,
             waiting: Waiting::new(alloc),
             asks: Vec::new(alloc),
+            until: None,
+            since: None,
         }
     }
 }
@@ -80,6 +89,8 @@ fn begin<L, C: AsRawFd + Drop>(
     ensures same { (connection.new.listener ≡ connection.old.listener) × (connection.new.served ≡ connection.old.served) }
     ensures leaving { (departures.new.leaving.items ≡ departures.old.leaving.items) × (departures.new.lost ≡ departures.old.lost) }
 {
+    connection.until = None;
+    connection.since = None;
     connection.waiting.begin()?;
     connection.asks.clear();
     connection.asks.reserve(MOST_ASKS)?;
@@ -306,11 +317,13 @@ fn next<S: System>(
     if !ready.is_foreign() {
         return Some(ready);
     }
+    waiting.foreign = waiting.foreign.saturating_add(1);
     refuse(system, departures, waiting.alloc(), ready);
     None
 }
 
-/// Waits for a connection whose turn may come, for so long where a time is given. Meanwhile what leaves goes on.
+/// Waits for a connection whose turn may come, for so long where a time is given, and no longer than until then. Meanwhile what
+/// leaves goes on.
 #[tactic(auto, using(crate::proofs::Comings::as_late, crate::proofs::Comings::later_still, crate::proofs::Comings::have_still))]
 fn wait<S: System>(
     system: &mut S,
@@ -319,6 +332,7 @@ fn wait<S: System>(
     listener: &S::Listener,
     asks: &mut Vec<pollfd>,
     every: Option<Duration>,
+    until: Option<Duration>,
 ) -> io::Result<Arriving<S::Stream>>
     ensures came { HaveCome S.Stream.raw_fd (S.Listener.raw_fd listener.now) (S.calls system.old) waiting.old.arriving.items → HaveCome S.Stream.raw_fd (S.Listener.raw_fd listener.now) (S.calls system.new) waiting.new.arriving.items }
     ensures later { Later (S.calls system.old) (S.calls system.new) }
@@ -327,7 +341,7 @@ fn wait<S: System>(
     ensures bounded { Bounded waiting.old.arriving.items → Bounded waiting.new.arriving.items }
     ensures within { Within departures.old.leaving.items → Within departures.new.leaving.items }
 {
-    let mut until = None;
+    let mut until = until;
     'waits: for _ in 0..u64::MAX {
         let now = match advance(system, departures) {
             Ok(now) => now,
@@ -372,6 +386,7 @@ pub(crate) fn take<S: System>(
         listener,
         &mut connection.asks,
         every,
+        connection.until.take(),
     ) {
         Ok(arriving) => {
             connection.served = Some(Served {
@@ -384,6 +399,73 @@ pub(crate) fn take<S: System>(
         }
         Err(fault) if every.is_some() && fault.kind() == ErrorKind::TimedOut => Ok(()),
         Err(fault) => Err(fault),
+    }
+}
+
+/// A time in milliseconds.
+fn millis_of(time: Duration) -> u64 {
+    u64::try_from(time.as_millis()).unwrap_or(u64::MAX)
+}
+
+/// What a machine counted by then.
+fn counted(base: &Counts, now: Duration, since: Duration, foreign: u64) -> Counts {
+    let mut counts = *base;
+    counts.clock = millis_of(now);
+    counts.up = millis_of(now.saturating_sub(since));
+    counts.foreign = foreign;
+    counts
+}
+
+/// Waits until the turn of one may come, or the time of a turn of its own, and shows pages meanwhile. What fails is left to who
+/// takes a connection.
+#[tactic(auto, using(crate::proofs::Comings::as_late, crate::proofs::Comings::later_still, crate::proofs::Comings::have_still))]
+pub(crate) fn show<S: System, P: Pages>(
+    system: &mut S,
+    connection: &mut Connection<S::Listener, S::Stream>,
+    departures: &mut Departures<S::Stream>,
+    every: Option<Duration>,
+    base: &Counts,
+    pages: &P,
+)
+    ensures same { (connection.new.listener ≡ connection.old.listener) × (connection.new.served ≡ connection.old.served) }
+    ensures later { Later (S.calls system.old) (S.calls system.new) }
+    ensures bounded { Bounded connection.old.waiting.arriving.items → Bounded connection.new.waiting.arriving.items }
+    ensures within { Within departures.old.leaving.items → Within departures.new.leaving.items }
+{
+    let Some(listener) = &connection.listener else {
+        return;
+    };
+    'waits: for _ in 0..u64::MAX {
+        let Ok(now) = advance(system, departures) else {
+            return;
+        };
+        let since = connection.since.unwrap_or(now);
+        connection.since = Some(since);
+        let until = begun(connection.until, every, now);
+        connection.until = until;
+        let counts = counted(base, now, since, connection.waiting.foreign);
+        show_all(
+            system,
+            &mut connection.waiting,
+            departures,
+            pages,
+            &counts,
+        );
+        if connection.waiting.has_ready(now) || is_over(until, now) {
+            return;
+        }
+        let waited = wait_once(
+            system,
+            &mut connection.waiting,
+            departures,
+            listener,
+            &mut connection.asks,
+            now,
+            until,
+        );
+        if waited.is_err() {
+            return;
+        }
     }
 }
 

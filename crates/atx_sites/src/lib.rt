@@ -13,6 +13,7 @@ mod names;
 pub mod node_site;
 pub mod open_file;
 pub mod outgoing;
+mod pages;
 mod resends;
 pub mod resolved_names;
 pub mod troubles;

@@ -24,6 +24,9 @@ use crate::faults::{counted, noted};
 use crate::resends::is_held;
 use crate::troubles::{Line, Step, Trouble};
 use resend_delays::delays::Delays;
+use shown_pages::page::Counts;
+use shown_pages::pages::Pages;
+use shown_pages::showing::Showing;
 use site_model::attachments::{Attachments, Given};
 use site_model::site::{AttachFailed, Site, Taken};
 use site_model::source::Failed;
@@ -120,6 +123,11 @@ impl<S: System + Drop> NodeSite<S> {
     /// From now on a turn in which nothing comes begins by itself, where no connection's turn came for so many milliseconds.
     pub fn keep_time(&mut self, millis: u64) {
         self.every = Some(Duration::from_millis(millis));
+    }
+
+    /// From now on it shows pages to who asks for them by GET at `/`, `/status` and `/healthz`, whose requests have no turn then.
+    pub fn show_pages(&mut self) {
+        self.connection.waiting.shows = true;
     }
 
     /// Lets go out what still leaves, each until its own time is over.
@@ -359,5 +367,33 @@ impl<S: System + Drop> Site for NodeSite<S> {
             Ok(time) => u64::try_from(time.as_millis()).unwrap_or(u64::MAX),
             Err(_) => 0,
         }
+    }
+}
+
+impl<S: System + Drop> Showing for NodeSite<S> {
+    fn show<P: Pages>(&mut self, pages: &P)
+        ensures bounded { Bounded self.old.connection.waiting.arriving.items → Bounded self.new.connection.waiting.arriving.items }
+        ensures within { Within self.old.departures.leaving.items → Within self.new.departures.leaving.items }
+        ensures served { self.new.connection.served ≡ self.old.connection.served }
+    {
+        if !self.connection.waiting.shows {
+            return;
+        }
+        let counts = Counts {
+            clock: 0,
+            up: 0,
+            taken: self.taken,
+            unread: self.receive,
+            foreign: 0,
+            lost: self.departures.lost,
+        };
+        connection::show(
+            &mut self.system,
+            &mut self.connection,
+            &mut self.departures,
+            self.every,
+            &counts,
+            pages,
+        );
     }
 }

@@ -39,6 +39,10 @@ pub struct Waiting<C> {
     arriving: Vec<Arriving<C>>,
     places: Vec<HeaderSpan>,
     pause: Option<Duration>,
+    /// Whether pages are shown: then who asks for one has no turn.
+    pub(crate) shows: bool,
+    /// How many web pages were refused.
+    pub(crate) foreign: u64,
 }
 
 /// Whether accept failed as nobody has come, or by the fault of one connection, or of the network on its way.
@@ -74,6 +78,8 @@ impl<C: AsRawFd + Drop> Waiting<C> {
             arriving: Vec::new(alloc),
             places: Vec::new(alloc),
             pause: None,
+            shows: false,
+            foreign: 0,
         }
     }
 
@@ -133,7 +139,7 @@ impl<C: AsRawFd + Drop> Waiting<C> {
 
     /// Whether the turn of one may come.
     pub(crate) fn has_ready(&self, now: Duration) -> bool {
-        place_of_ready(self.arriving.as_slice(), now).is_some()
+        place_of_ready(self.arriving.as_slice(), self.shows, now).is_some()
     }
 
     /// The first whose turn may come.
@@ -144,7 +150,19 @@ impl<C: AsRawFd + Drop> Waiting<C> {
         ensures bounded { Bounded self.old.arriving.items → Bounded self.new.arriving.items }
     {
         self.close_silent(now);
-        match place_of_ready(self.arriving.as_slice(), now) {
+        match place_of_ready(self.arriving.as_slice(), self.shows, now) {
+            Some(place) => Some(self.arriving.remove(place)),
+            None => None,
+        }
+    }
+
+    /// The first that asks for a page.
+    #[tactic(auto, using(crate::proofs::Comings::have_removed, crate::proofs::Comings::has_taken))]
+    pub(crate) fn asking(&mut self) -> Option<Arriving<C>>
+        ensures came { (number : C → Number) (listener : Number) (calls : Calls) → HaveCome number listener calls self.old.arriving.items → HaveCome number listener calls self.new.arriving.items }
+        ensures bounded { Bounded self.old.arriving.items → Bounded self.new.arriving.items }
+    {
+        match place_of_asking(self.arriving.as_slice()) {
             Some(place) => Some(self.arriving.remove(place)),
             None => None,
         }
@@ -204,12 +222,24 @@ fn place_of_silent<C>(arrivals: &[Arriving<C>], now: Duration) -> Option<usize>
     None
 }
 
-/// The first whose turn may come.
-fn place_of_ready<C>(arrivals: &[Arriving<C>], now: Duration) -> Option<usize>
+/// The first whose turn may come. Where pages are shown, who asks for one has none.
+fn place_of_ready<C>(arrivals: &[Arriving<C>], shows: bool, now: Duration) -> Option<usize>
     ensures { IfSome result (λ i. i < length arrivals.now) }
 {
     for i in 0..arrivals.len() {
-        if arrivals[i].is_ready(now) {
+        if arrivals[i].is_ready(now) && !(shows && arrivals[i].asks_page()) {
+            return Some(i);
+        }
+    }
+    None
+}
+
+/// The first that asks for a page.
+fn place_of_asking<C>(arrivals: &[Arriving<C>]) -> Option<usize>
+    ensures { IfSome result (λ i. i < length arrivals.now) }
+{
+    for i in 0..arrivals.len() {
+        if arrivals[i].asks_page() {
             return Some(i);
         }
     }
