@@ -1,5 +1,6 @@
 -- The calls of a machine that tells its counts alone.
 use Rattle.std.proofs.Common.{ℕ, List, None, Result, Ok, Err, [], ◌∷◌, ◌≡◌, inr, refl, map, OnOk, OnErr, IfOk, IsErr}
+use Rattle.shown_pages.specs.Quiet.{Quiet}
 use Rattle.site_model.specs.Told.{Call, Made, Files, Elapses, Is, done, silent}
 use Rattle.site_model.specs.Told.Call.{Write, Sync}
 use Rattle.site_model.specs.Attachments.{Names}
@@ -40,6 +41,9 @@ looked a b result counts =
       apart = record { link = refl; clock = refl };
       counts = counts;
     }
+
+pub quiet : (a b : Counts) → b ≡ a → Quiet (silent a) (silent b)
+quiet a b same = record { still = record { files = refl; images = λ c h. h; calls = refl; time = elapsed a b _ }; apart = record { link = refl; clock = refl }; counts = same }
 
 module _ {F T E : Type 0} (old new : Disk F) (accept receive link taken : ℕ) (names : List Names) (result : Result T E) where
   pub on_disk : HasCause old.disk new.disk result → new.gate ≡ old.gate

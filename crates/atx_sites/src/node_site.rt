@@ -1,6 +1,7 @@
 //! The machine of a node that serves: its files, its listener and connection, its posts and its clock.
 
 ghost use Rattle.std.specs.Prelude.{◌≡◌, ◌≤◌, ◌<◌, ◌+◌, [], true, false, length, take, drop, None, IfOk, IsErr, OnOk, OnErr, Ok};
+ghost use Rattle.shown_pages.specs.Quiet.{Quiet};
 ghost use Rattle.site_model.specs.Calls.{Attaches, Closes, Gave, Looked, Raised, Received, Synced, Takes, Wrote};
 ghost use Rattle.site_model.specs.Counts.{capped};
 ghost use Rattle.site_model.specs.Told.{Files as Files_told, Is, file_of};
@@ -371,7 +372,9 @@ impl<S: System + Drop> Site for NodeSite<S> {
 }
 
 impl<S: System + Drop> Showing for NodeSite<S> {
+    #[tactic(auto, using(crate::proofs::SilentMachines::quiet))]
     fn show<P: Pages>(&mut self, pages: &P)
+        ensures call { Quiet (told_with self.old.disk self.old.accept self.old.receive self.old.link self.old.taken self.old.attached.names) (told_with self.new.disk self.new.accept self.new.receive self.new.link self.new.taken self.new.attached.names) }
         ensures bounded { Bounded self.old.connection.waiting.arriving.items → Bounded self.new.connection.waiting.arriving.items }
         ensures within { Within self.old.departures.leaving.items → Within self.new.departures.leaving.items }
         ensures served { self.new.connection.served ≡ self.old.connection.served }

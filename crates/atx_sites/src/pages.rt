@@ -58,6 +58,7 @@ fn shown<P: Pages>(
 }
 
 /// Shows its page to one that asks for it, and closes its connection behind that: at once, where there is no memory.
+#[tactic(auto, using(crate::proofs::Comings::as_late))]
 fn show<S: System, P: Pages>(
     system: &mut S,
     departures: &mut Departures<S::Stream>,
