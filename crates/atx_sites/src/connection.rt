@@ -37,6 +37,40 @@ pub struct Served<C> {
     is_cut: bool,
 }
 
+/// Since when pages are shown, and when the wait for a turn is over in which they are.
+#[derive(Clone, Copy)]
+struct Shown {
+    since: Option<Duration>,
+    until: Option<Duration>,
+}
+
+impl Shown {
+    fn new() -> Shown {
+        Shown {
+            since: None,
+            until: None,
+        }
+    }
+
+    /// Since when pages are shown: since now, where they weren't before.
+    fn since(&mut self, now: Duration) -> Duration {
+        let since = self.since.unwrap_or(now);
+        self.since = Some(since);
+        since
+    }
+
+    /// When a wait is over that began now, unless it began before.
+    fn begun(&mut self, every: Option<Duration>, now: Duration) -> Option<Duration> {
+        self.until = begun(self.until, every, now);
+        self.until
+    }
+
+    /// When the wait is over, which goes on where a connection is taken.
+    fn end(&mut self) -> Option<Duration> {
+        self.until.take()
+    }
+}
+
 /// A listener, the connections that are read aside, and the one that is served. Connections are served one after another.
 #[derive(Drop)]
 pub struct Connection<L, C> {
@@ -46,10 +80,7 @@ pub struct Connection<L, C> {
     pub(crate) waiting: Waiting<C>,
     /// What the system is to wait for; it keeps its room.
     pub(crate) asks: Vec<pollfd>,
-    /// When the wait for a turn is over that has begun.
-    until: Option<Duration>,
-    /// Since when pages are shown.
-    since: Option<Duration>,
+    shown: Shown,
 }
 
 impl<L: Drop, C: AsRawFd + Drop> Connection<L, C> {
@@ -63,8 +94,7 @@ impl<L: Drop, C: AsRawFd + Drop> Connection<L, C> {
             served: None,
             waiting: Waiting::new(alloc),
             asks: Vec::new(alloc),
-            until: None,
-            since: None,
+            shown: Shown::new(),
         }
     }
 }
@@ -89,8 +119,7 @@ fn begin<L, C: AsRawFd + Drop>(
     ensures same { (connection.new.listener ≡ connection.old.listener) × (connection.new.served ≡ connection.old.served) }
     ensures leaving { (departures.new.leaving.items ≡ departures.old.leaving.items) × (departures.new.lost ≡ departures.old.lost) }
 {
-    connection.until = None;
-    connection.since = None;
+    connection.shown = Shown::new();
     connection.waiting.begin()?;
     connection.asks.clear();
     connection.asks.reserve(MOST_ASKS)?;
@@ -386,7 +415,7 @@ pub(crate) fn take<S: System>(
         listener,
         &mut connection.asks,
         every,
-        connection.until.take(),
+        connection.shown.end(),
     ) {
         Ok(arriving) => {
             connection.served = Some(Served {
@@ -416,9 +445,42 @@ fn counted(base: &Counts, now: Duration, since: Duration, foreign: u64) -> Count
     counts
 }
 
+/// Waits until the turn of one may come, or until then, and shows pages meanwhile.
+#[tactic(auto, using(crate::proofs::Comings::as_late, crate::proofs::Comings::later_still))]
+fn show_until<S: System, P: Pages>(
+    system: &mut S,
+    waiting: &mut Waiting<S::Stream>,
+    departures: &mut Departures<S::Stream>,
+    listener: &S::Listener,
+    asks: &mut Vec<pollfd>,
+    shown: &mut Shown,
+    every: Option<Duration>,
+    base: &Counts,
+    pages: &P,
+)
+    ensures later { Later (S.calls system.old) (S.calls system.new) }
+    ensures bounded { Bounded waiting.old.arriving.items → Bounded waiting.new.arriving.items }
+    ensures within { Within departures.old.leaving.items → Within departures.new.leaving.items }
+{
+    'waits: for _ in 0..u64::MAX {
+        let Ok(now) = advance(system, departures) else {
+            return;
+        };
+        let until = shown.begun(every, now);
+        let counts = counted(base, now, shown.since(now), waiting.foreign);
+        show_all(system, waiting, departures, pages, &counts);
+        if waiting.has_ready(now) || is_over(until, now) {
+            return;
+        }
+        if wait_once(system, waiting, departures, listener, asks, now, until).is_err() {
+            return;
+        }
+    }
+}
+
 /// Waits until the turn of one may come, or the time of a turn of its own, and shows pages meanwhile. What fails is left to who
 /// takes a connection.
-#[tactic(auto, using(crate::proofs::Comings::as_late, crate::proofs::Comings::later_still, crate::proofs::Comings::have_still))]
+#[tactic(auto, using(crate::proofs::Comings::as_late))]
 pub(crate) fn show<S: System, P: Pages>(
     system: &mut S,
     connection: &mut Connection<S::Listener, S::Stream>,
@@ -435,38 +497,17 @@ pub(crate) fn show<S: System, P: Pages>(
     let Some(listener) = &connection.listener else {
         return;
     };
-    'waits: for _ in 0..u64::MAX {
-        let Ok(now) = advance(system, departures) else {
-            return;
-        };
-        let since = connection.since.unwrap_or(now);
-        connection.since = Some(since);
-        let until = begun(connection.until, every, now);
-        connection.until = until;
-        let counts = counted(base, now, since, connection.waiting.foreign);
-        show_all(
-            system,
-            &mut connection.waiting,
-            departures,
-            pages,
-            &counts,
-        );
-        if connection.waiting.has_ready(now) || is_over(until, now) {
-            return;
-        }
-        let waited = wait_once(
-            system,
-            &mut connection.waiting,
-            departures,
-            listener,
-            &mut connection.asks,
-            now,
-            until,
-        );
-        if waited.is_err() {
-            return;
-        }
-    }
+    show_until(
+        system,
+        &mut connection.waiting,
+        departures,
+        listener,
+        &mut connection.asks,
+        &mut connection.shown,
+        every,
+        base,
+        pages,
+    );
 }
 
 /// Gives bytes from a place on, as many as the buffer takes, and says how many.

@@ -1,0 +1,5 @@
+use Rattle.atx_sites.proofs.Afterwards.{answers_later}
+use Rattle.atx_sites.proofs.pages.show.Goals as goal
+
+pub returns-in-Ok-clause-later : goal.returns-in-Ok-clause-later
+returns-in-Ok-clause-later g c = answers_later _ _ _ _ _ _ _ _ _ c.answer.ensures.answers.1
