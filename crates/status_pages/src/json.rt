@@ -115,6 +115,7 @@ fn superior(alloc: Global, superior: &Option<Superior>) -> Result<Value, AllocEr
     }
 }
 
+#[tactic(auto, using(crate::proofs::Values::grown))]
 fn participants(alloc: Global, seats: &[Enlistment]) -> Result<Vec<Value>, AllocError>
     ensures { IfOk result (λ values. map view values.items ≡ map participant_data seats.now) }
 {
@@ -185,6 +186,7 @@ fn activity(alloc: Global, now: u64, activity: &Activity) -> Result<Value, Alloc
     })
 }
 
+#[tactic(auto, using(crate::proofs::Values::grown))]
 fn transactions(
     alloc: Global,
     now: u64,
@@ -199,6 +201,7 @@ fn transactions(
     Ok(values)
 }
 
+#[tactic(auto, using(crate::proofs::Values::grown))]
 fn leaves(alloc: Global, now: u64, items: Items<'_, Leaf>) -> Result<Vec<Value>, AllocError>
     ensures { IfOk result (λ values. map view values.items ≡ map (leaf_data now) items.entry) }
 {
@@ -209,6 +212,7 @@ fn leaves(alloc: Global, now: u64, items: Items<'_, Leaf>) -> Result<Vec<Value>,
     Ok(values)
 }
 
+#[tactic(auto, using(crate::proofs::Values::grown))]
 fn activities(
     alloc: Global,
     now: u64,
