@@ -58,7 +58,9 @@ module _ {S : Type 0} (told : S → Told) where
   does_same role requests.Wait (answers.Local answer) n m s t does = absurd does
   does_same role requests.Wait answers.Stale n m s t does = absurd does
   does_same role requests.Wait (answers.Turn turned) n m s t does =
-      ends_same does.1.first turned does.0 does.1.node m does.1.behind t does.1.ends ∙ turn_same does.1.first role n does.1.node (told s) (told does.1.behind) does.1.steps
+      let turn = does.2.1 in
+      ends_same turn.first turned does.2.0 turn.node m turn.behind t turn.ends ∙ turn_same turn.first role n turn.node (told does.0) (told turn.behind) turn.steps
+      ∙ ap (λ (z : Counts). z.attached) does.1.counts
 
   module _ (role : Role) (n : State) (s : S) where
     row_same : (all rest : List Item) (notes : Notes) (text : List ℕ) (m : State) (t : S) → Row told role all n s rest notes text m t → attached_at t ≡ attached_at s

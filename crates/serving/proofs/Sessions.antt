@@ -10,14 +10,18 @@ use Rattle.at_base.specs.Numbers.{Numbers}
 use Rattle.at_base.specs.declared.event.Local.{Local}
 use Rattle.at_base.specs.declared.outs.Effect.{Effect}
 use Rattle.completion_at.specs.declared.requests.Refusal.{Refusal}
+use Rattle.node_at.specs.Endings.{TakesTurn}
 use Rattle.node_at.specs.Locals.{Asked}
 use Rattle.node_at.specs.State.{State}
 use Rattle.node_at.specs.Steps.{Keeping}
 use Rattle.node_at.specs.declared.local.Locally.{Locally}
 use Rattle.node_at.specs.declared.local.Locally.TheVariants as locally
 use Rattle.node_at.specs.declared.role.Role.{Role}
+use Rattle.node_at.specs.declared.shrink.Shrunk.{Shrunk}
+use Rattle.node_at.specs.declared.turn.Turned.{Turned}
 use Rattle.schedules.specs.declared.initiator_line.InitiatorLine.{InitiatorLine}
 use Rattle.schedules.specs.declared.initiator_line.InitiatorLine.TheVariants as lines
+use Rattle.shown_pages.specs.Quiet.{Quiet}
 use Rattle.site_model.specs.Counts.{Rose}
 use Rattle.site_model.specs.Told.{Told}
 use Rattle.serving.specs.Notes.{Item, Notes, adds, brings, lacks, left, meets, no_notes, noted, waited_behind}
@@ -35,6 +39,10 @@ use Rattle.serving.specs.declared.request.Request.TheVariants as requests
 pub asks : {S : Type 0} (told : S → Told) (role : Role) (r : Request) (l : Local) (a : Locally) (n m : State) (s t : S) → r ≡ requests.Local l → Asked a n m l (told s) (told t)
     → ((why : Refusal) → a ≡ locally.Refused why → t ≡ s) → Keeping (told s) (told t) → Does told role r (answers.Local a) n m s t
 asks told role r l a n m s t e h same k = subst (λ x. Does told role x (answers.Local a) n m s t) (sym e) (record { asked = h; nothing = same }, k)
+
+pub turns : {S : Type 0} (told : S → Told) (role : Role) (r : Request) (turned : Turned) (shrunk : Shrunk) (n m : State) (s shown t : S) → r ≡ requests.Wait → Quiet (told s) (told shown)
+    → TakesTurn told turned role shrunk n m shown t → Does told role r (answers.Turn turned) n m s t
+turns told role r turned shrunk n m s shown t e q h = subst (λ x. Does told role x (answers.Turn turned) n m s t) (sym e) (shown, q, (shrunk, h))
 
 pub stale : {S : Type 0} (told : S → Told) (role : Role) (r : Request) (n m : State) (s t : S) → r ≡ requests.Stale → m ≡ n → t ≡ s → Does told role r answers.Stale n m s t
 stale told role r n m s t e f g = subst (λ x. Does told role x answers.Stale n m s t) (sym e) (f, g)

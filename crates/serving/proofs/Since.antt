@@ -70,7 +70,7 @@ module _ {S : Type 0} (told : S → Told) where
   line_runs role requests.Stale met (answers.Turn turned) n m s t does runs up = absurd does
   line_runs role requests.Wait met (answers.Local answer) n m s t does runs up = absurd does
   line_runs role requests.Wait met answers.Stale n m s t does runs up = absurd does
-  line_runs role requests.Wait met (answers.Turn turned) n m s t does runs up = turn_runs turned role does.0 n m s t does.1 (λ e. runs (ap (λ z. ended_by met (answers.Turn z)) e)) up
+  line_runs role requests.Wait met (answers.Turn turned) n m s t does runs up = turn_runs turned role does.2.0 n m does.0 t does.2.1 (λ e. runs (ap (λ z. ended_by met (answers.Turn z)) e)) up
 
   -- what calls in a row did
   abbrev Lived : State → S → State → S → Type 0
@@ -87,7 +87,10 @@ module _ {S : Type 0} (told : S → Told) where
   line_lives role requests.Wait (answers.Local answer) n k m s t u lived runs does = absurd does
   line_lives role requests.Wait answers.Stale n k m s t u lived runs does = absurd does
   line_lives role requests.Wait (answers.Turn turned) n k m s t u lived runs does =
-      (lived.0 ++ acts_in does.1.first role k does.1.node (told t) (told does.1.behind) does.1.steps, Lives.turned lived.0 k t turned role does.0 lived.1 runs does.1 refl)
+      let turn = does.2.1 in (
+        lived.0 ++ acts_in turn.first role k turn.node (told does.0) (told turn.behind) turn.steps,
+        Lives.turned lived.0 k does.0 turned role does.2.0 (Lives.waits t lived.1 does.1.still) runs turn refl,
+      )
 
   module _ (role : Role) (n : State) (s : S) (up : n.halted ≡ false) where
     row_lives : (all rest : List Item) (notes : Notes) (text : List ℕ) (m : State) (t : S) → Row told role all n s rest notes text m t → Lived n s m t × (m.halted ≡ false)

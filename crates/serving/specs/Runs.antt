@@ -12,6 +12,7 @@ use Rattle.node_at.specs.declared.role.Role.{Role}
 use Rattle.node_at.specs.declared.shrink.Shrunk.{Shrunk}
 use Rattle.node_worlds.specs.Lives.{Requests}
 use Rattle.schedules.specs.declared.initiator_line.InitiatorLine.{InitiatorLine}
+use Rattle.shown_pages.specs.Quiet.{Quiet}
 use Rattle.site_model.specs.Calls.{Attaches}
 use Rattle.site_model.specs.Told.{Told}
 use Rattle.site_model.specs.declared.site.AttachFailed.{AttachFailed}
@@ -26,12 +27,12 @@ use Rattle.serving.specs.Lines.{fault_text, up_line}
 use Rattle.serving.specs.Notes.{Item, Notes, left, no_notes, noted}
 use Rattle.serving.specs.Requests.{done_by, ended_by, printed, request_of}
 
--- What a node does for a line: a step for a request, a turn for a `wait`. A line on an activity whose own line was refused
+-- What a node does for a line: a step for a request, a turn for a `wait`, before which pages may be shown. A line on an activity whose own line was refused
 -- is refused, and nothing is done; so is the commit of an activity of which a work was refused.
 abbrev pub Does : {S : Type 0} → (S → Told) → Role → Request → Answer → State → State → S → S → Type 0
 Does told role (requests.Local l) (answers.Local answer) n m s t = Requests told answer n m l s t × Keeping (told s) (told t)
 Does told role requests.Stale answers.Stale n m s t = (m ≡ n) × (t ≡ s)
-Does told role requests.Wait (answers.Turn turned) n m s t = (shrunk : Shrunk) × TakesTurn told turned role shrunk n m s t
+Does {S} told role requests.Wait (answers.Turn turned) n m s t = (shown : S) × Quiet (told s) (told shown) × ((shrunk : Shrunk) × TakesTurn told turned role shrunk n m shown t)
 Does told role request answer n m s t = ⊥
 
 -- A row of lines and turns that were done one after the other, from this node and this machine on: those that are left of all of

@@ -138,7 +138,7 @@ fn make_room(
 
 impl Session {
     /// Does what a line asks. Before a turn the machine shows the node's pages to who asks for them.
-    #[tactic(auto, using(crate::proofs::Sessions::asks, crate::proofs::ShownTurns::shown_turns))]
+    #[tactic(auto, using(crate::proofs::Sessions::asks, crate::proofs::Sessions::turns))]
     fn answer<H: Showing>(&mut self, alloc: Global, request: &Request, site: &mut H) -> Answer
         requires { IsNode (seen self.old.node) }
         ensures does { Does H.told self.old.node.role request.now result (seen self.old.node) (seen self.new.node) site.old site.new }
