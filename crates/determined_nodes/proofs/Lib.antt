@@ -1,0 +1,12 @@
+mod Leavings
+mod ArmedRows
+mod RecordCalls
+mod TriedOuts
+mod TmpRows
+mod TwoRewritings
+mod TwoRuns
+mod OneStep
+mod KeptOpenings
+mod RenewedJournals
+mod StepsBehind
+mod TwoTurns
