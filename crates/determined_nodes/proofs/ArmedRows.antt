@@ -4,13 +4,10 @@ use Rattle.std.proofs.Common.{ap, arith, inl, inr, refl, subst, sym, ◌∙◌}
 use Rattle.std.proofs.lemmas.List.{append_assoc, length-append, length-map}
 use Rattle.site_memory.specs.ToldCalls.{AreArmed}
 use Rattle.site_model.specs.Told.{BreaksOff, Call, Made, done, failed}
-use Rattle.determined_nodes.specs.TmpFates.{AllDone, refusals}
+use Rattle.mirrored_nets.specs.Fates.{AllDone, refusals}
 
-use Rattle.determined_nodes.proofs.TmpRows.{all_refused_none}
-
-pub each_done : (cs : List Call) → AllDone (map done cs)
-each_done [] = tt
-each_done (c ∷ cs) = (refl, each_done cs)
+use Rattle.mirrored_nets.proofs.AnewCalls.{each_done}
+use Rattle.mirrored_nets.proofs.CallRows.{all_refused_none}
 
 abbrev pub called : Made → Call
 called m = m.call

@@ -2,7 +2,6 @@ mod Leavings
 mod ArmedRows
 mod RecordCalls
 mod TriedOuts
-mod TmpRows
 mod TwoRewritings
 mod TwoRuns
 mod OneStep
@@ -10,3 +9,5 @@ mod KeptOpenings
 mod RenewedJournals
 mod StepsBehind
 mod TwoTurns
+mod DidTurns
+mod TurnsAreDetermined

@@ -10,9 +10,10 @@ use Rattle.node_at.specs.Starts.{append_calls}
 use Rattle.record_bytes.specs.Bytes.{bytes_of}
 use Rattle.site_memory.specs.ToldCalls.{AreArmed}
 use Rattle.site_model.specs.Told.{BreaksOff, Made, done, failed}
-use Rattle.determined_nodes.specs.TmpFates.{AllDone, failures, refusals}
-use Rattle.determined_nodes.proofs.ArmedRows.{breaks_cut, breaks_within, cut, each_done, later_cut, whole_cut}
-use Rattle.determined_nodes.proofs.TmpRows.{all_refused_none, disk_calls, none_fails}
+use Rattle.mirrored_nets.specs.Fates.{AllDone, failures, refusals}
+use Rattle.determined_nodes.proofs.ArmedRows.{breaks_cut, breaks_within, cut, later_cut, whole_cut}
+use Rattle.mirrored_nets.proofs.AnewCalls.{each_done}
+use Rattle.mirrored_nets.proofs.CallRows.{all_refused_none, disk_calls, none_fails}
 
 module _ (before fails live end : ℕ) (body : List ℕ) (made : List Made) (h : AreArmed before fails made) where
   pub done_is : Makes appends.Done live end body made → made ≡ cut before fails (append_calls live end body)
@@ -49,6 +50,13 @@ fate_disk landed None live limit end first refused (e, n) = ap failures e
 fate_disk true (Some r) live limit end first refused (m, w, n) = ap failures m
 fate_disk false (Some r) live limit end first refused (inl (b, w, n)) = none_fails first (disk_calls (lay live end (bytes_of r)) first (refl, (refl, tt)) b)
 fate_disk false (Some r) live limit end first refused (inr (m, w, n)) = ap failures m
+
+-- at most one that failed, where it was refused
+pub fate_few : (landed : Bool) (entry : Option Record) (live limit end : ℕ) (first : List Made) (refused : ℕ) → IsFateAt landed entry live limit end first refused → refusals first ≤ 1 → refusals first ≤ refused
+fate_few landed None live limit end first refused (e, n) most = let a = ap refusals e in omega (arith, a)
+fate_few true (Some r) live limit end first refused (m, w, n) most = let a = done_none live end (bytes_of r) first m in omega (arith, a)
+fate_few false (Some r) live limit end first refused (inl (b, w, n)) most = omega (arith, n, most)
+fate_few false (Some r) live limit end first refused (inr (m, w, n)) most = let a = ap refusals m in omega (arith, a)
 
 -- The record has room.
 abbrev pub Fits : Option Record → (end limit : ℕ) → Type 0

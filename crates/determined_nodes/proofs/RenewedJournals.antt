@@ -19,14 +19,29 @@ use Rattle.site_memory.specs.ToldCalls.{AreArmed}
 use Rattle.site_memory.specs.declared.machine.MemSite.{MemSite}
 use Rattle.site_model.specs.Counts.{Rose}
 use Rattle.site_model.specs.Told.{Call, Made, Told, done}
-use Rattle.determined_nodes.specs.TmpFates.{AllDone, refusals}
-use Rattle.determined_nodes.proofs.ArmedRows.{each_done}
+use Rattle.mirrored_nets.specs.Fates.{AllDone, refusals}
+use Rattle.mirrored_nets.proofs.AnewCalls.{each_done}
 use Rattle.determined_nodes.proofs.KeptOpenings.{opening_kept}
-use Rattle.determined_nodes.proofs.TmpRows.{all_refused_none}
+use Rattle.mirrored_nets.proofs.CallRows.{AreOnDisk, all_refused_none, disk_calls}
 use Rattle.determined_nodes.proofs.TwoRewritings.{Ended, EndsAt, anew_row, is_broken}
 
 pub same_calls : (xs ys : List Made) → Some xs ≡ Some ys → xs ≡ ys
 same_calls xs ys e = cc
+
+each_on_disk : (unshut : Bool) (file : ℕ) (text : List ℕ) → AreOnDisk (map done (prepare_calls unshut file text))
+each_on_disk true file text = (refl, (refl, (refl, (refl, tt))))
+each_on_disk false file text = (refl, (refl, (refl, tt)))
+
+all_join : (xs ys : List Made) → AreOnDisk xs → AreOnDisk ys → AreOnDisk (xs ++ ys)
+all_join [] ys h k = k
+all_join (x ∷ xs) ys (h, more) k = (h, all_join xs ys more k)
+
+row_on_disk : (r : Compact) (unshut : Bool) (file : ℕ) (text : List ℕ) (made : List Made) → Steps r unshut file text made → AreOnDisk made
+row_on_disk compacts.Done unshut file text made e = subst AreOnDisk (sym e) (all_join (map done (prepare_calls unshut file text)) (map done (raise file 0)) (each_on_disk unshut file text) (refl, (refl, tt)))
+row_on_disk compacts.Kept unshut file text made b = disk_calls (prepare_calls unshut file text) made (each_on_disk unshut file text) b
+row_on_disk compacts.Unsure unshut file text made (rest, e, b) =
+    subst AreOnDisk (sym e) (all_join (map done (prepare_calls unshut file text)) rest (each_on_disk unshut file text) (disk_calls (raise file 0) rest (refl, (refl, tt)) b))
+row_on_disk compacts.Full unshut file text made e = subst AreOnDisk (sym e) tt
 
 -- a count of faults rose
 abbrev pub RoseBetween : MemSite → MemSite → Type 0
@@ -36,6 +51,7 @@ RoseBetween old new = Rose (told_of old).counts.disk (told_of new).counts.disk �
 pub record EndsSo (n m : State) (old new : MemSite) : Type 0 where
   pub anew : List Made
   pub grown : calls_in new.device ≡ calls_in old.device ++ anew
+  pub on_disk : AreOnDisk anew
   pub opening : opening_in new.device ≡ opening_in old.device
   pub failed : 1 ≤ refusals anew → RoseBetween old new
   pub ended : (before fails : ℕ) → AreArmed before fails anew → (RoseBetween old new → 1 ≤ refusals anew) → Ended before fails n m anew
@@ -45,6 +61,7 @@ module _ (n m : State) (old new : MemSite) (sure : n.journal.unsure ≡ false) (
   idles undue same e = record {
     anew = [];
     grown = ap (λ (s : MemSite). calls_in s.device) e ∙ sym (append-nil (calls_in old.device));
+    on_disk = tt;
     opening = ap (λ (s : MemSite). opening_in s.device) e;
     failed = λ some. absurd (omega (arith, some));
     ended = λ before fails armed rises. Ended.idle undue same refl;
@@ -81,6 +98,7 @@ module _ (n m : State) (old new : MemSite) (sure : n.journal.unsure ≡ false) (
       record {
         anew = moves.made;
         grown = same_calls (calls_in new.device) (calls_in old.device ++ moves.made) moves.grown;
+        on_disk = row_on_disk r n.journal.unshut (1 - n.journal.live) (text_of (n.journal.generation + 1) (texts_of (shrunk n.kept))) moves.made moves.are;
         opening = opening_kept old new _ all.time;
         failed = why_failed r n.journal.unshut (1 - n.journal.live) (text_of (n.journal.generation + 1) (texts_of (shrunk n.kept))) moves.made moves.are a.compacted.ground;
         ended = λ before fails armed rises. Ended.wrote r (record {

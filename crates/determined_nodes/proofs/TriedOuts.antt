@@ -15,9 +15,10 @@ use Rattle.node_at.specs.Texts.{Leaving, call_by}
 use Rattle.node_at.specs.TurnText.{AreDue, TurnStep}
 use Rattle.at_model.specs.Step.{Outcome}
 use Rattle.site_model.specs.Told.{Call, Made, done, failed}
-use Rattle.determined_nodes.specs.TmpFates.{failures, is_disk}
+use Rattle.mirrored_nets.specs.Fates.{failures, is_disk, refusals}
 use Rattle.determined_nodes.proofs.ArmedRows.{called}
-use Rattle.determined_nodes.proofs.TmpRows.{failures_join}
+use Rattle.mirrored_nets.proofs.CallRows.{AreSendings, failures_join, none_refused, refusals_join}
+use Rattle.mirrored_nets.proofs.ToldFares.{AllAreOuts, AreOuts, IsOut}
 
 abbrev left_by : Bool → Bool → ℕ
 left_by b t = if b then 0 else (if t then 0 else 1)
@@ -36,6 +37,14 @@ one_more made m = let a = failures_join made (m ∷ []) in let b = most_one (is_
 
 no_more : (made : List Made) (x : Leaving) → failures (made ++ done x.call ∷ []) ≡ failures made
 no_more made x = let a = failures_join made (done x.call ∷ []) in let b = done_counts (is_disk x.call) in omega (arith, a, b)
+
+parts : (xs : List Leaving) (x : Leaving) → AreOuts (xs ++ x ∷ []) → AreOuts xs × IsOut x.call
+parts [] x (h, more) = (tt, h)
+parts (y ∷ ys) x (h, more) = let (front, last) = parts ys x more in ((h, front), last)
+
+sendings_join : (made : List Made) (m : Made) → AreSendings made → is_disk m.call ≡ false → AreSendings (made ++ m ∷ [])
+sendings_join [] m h is = (is, tt)
+sendings_join (x ∷ made) m (h, more) is = (h, sendings_join made m more is)
 
 -- those that failed were counted
 pub few_failures : {ts : List Token} {ids : List Numbers} {all : List Leaving} {made : List Made} {lost : ℕ} → Tried ts ids all made lost → failures made ≤ lost
@@ -73,6 +82,16 @@ all_there (was_lost {made = before} x t may all (inr is) total) few =
     let c = ap failures is in
     absurd (omega (arith, few, a, c, total))
 
+-- none of them is a call of the disk
+pub tried_sendings : {ts : List Token} {ids : List Numbers} {all : List Leaving} {made : List Made} {lost : ℕ} → Tried ts ids all made lost → AreOuts all → AreSendings made
+tried_sendings none h = tt
+tried_sendings (went {xs = xs} {made = before} x t may all is) h =
+    let (front, last) = parts xs x (subst AreOuts all h) in subst AreSendings (sym is) (sendings_join before (done x.call) (tried_sendings t front) last)
+tried_sendings (was_lost {xs = xs} {made = before} x t may all (inl is) total) h =
+    let (front, last) = parts xs x (subst AreOuts all h) in subst AreSendings (sym is) (sendings_join before (failed x.call) (tried_sendings t front) last)
+tried_sendings (was_lost {xs = xs} {made = before} x t may all (inr is) total) h =
+    let (front, last) = parts xs x (subst AreOuts all h) in subst AreSendings (sym is) (tried_sendings t front)
+
 -- the calls of the outs of all these steps
 abbrev pub leaving_calls : List TurnStep → List Call
 leaving_calls [] = []
@@ -102,6 +121,20 @@ module _ (live limit : ℕ) where
       let c = failures_join (d.first ++ d.made) (calls_of ds) in
       let f = failures_join d.first d.made in
       let g = ap failures (no_record bodies s d e fate) in
+      omega (arith, a, b, c, f, g)
+
+  -- nor do they call the disk
+  pub rows_quiet : (k : Known) (bodies : List (List ℕ)) (ss : List TurnStep) (ds : List Doing) → AllByRecursion NoRecord ss → AllAreOuts ss → AreDoings k ss ds → AreFates live limit bodies ss ds
+      → refusals (calls_of ds) ≡ 0
+  rows_quiet k bodies [] [] free are_outs are fates = refl
+  rows_quiet k bodies [] (d ∷ ds) free are_outs are fates = absurd are
+  rows_quiet k bodies (s ∷ ss) [] free are_outs are fates = absurd are
+  rows_quiet k bodies (s ∷ ss) (d ∷ ds) (e, free) (out, are_outs) (is, are) (fate, fates) =
+      let a = rows_quiet (kept_by (if_landed s.landed s.entry) k) (bodies ++ d.landed) ss ds free are_outs are fates in
+      let b = none_refused d.made (tried_sendings is.tried out) in
+      let c = refusals_join (d.first ++ d.made) (calls_of ds) in
+      let f = refusals_join d.first d.made in
+      let g = ap refusals (no_record bodies s d e fate) in
       omega (arith, a, b, c, f, g)
 
   -- steps without records, none of whose lost outs is missing among the calls

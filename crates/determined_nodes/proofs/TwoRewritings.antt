@@ -16,9 +16,10 @@ use Rattle.node_at.specs.State.{State}
 use Rattle.site_memory.specs.ToldCalls.{AreArmed}
 use Rattle.site_model.specs.Told.{BreaksOff, Call, Made, done, failed}
 use Rattle.determined_nodes.specs.SameNodes.{IsSameBehind, IsSameJournal, IsSameNode}
-use Rattle.determined_nodes.specs.TmpFates.{AllDone, refusals}
-use Rattle.determined_nodes.proofs.ArmedRows.{breaks_cut, breaks_within, cut, each_done, later_cut, whole_cut}
-use Rattle.determined_nodes.proofs.TmpRows.{all_refused_none}
+use Rattle.mirrored_nets.specs.Fates.{AllDone, refusals}
+use Rattle.determined_nodes.proofs.ArmedRows.{breaks_cut, breaks_within, cut, later_cut, whole_cut}
+use Rattle.mirrored_nets.proofs.AnewCalls.{each_done}
+use Rattle.mirrored_nets.proofs.CallRows.{all_refused_none}
 
 -- the calls of one
 abbrev pub anew_row : Bool → ℕ → List ℕ → List Call

@@ -17,11 +17,12 @@ use Rattle.site_memory.specs.ToldCalls.{AreArmed}
 use Rattle.site_model.specs.Told.{Call, Made}
 use Rattle.determined_nodes.specs.Outs.{LeaveOneWay}
 use Rattle.determined_nodes.specs.SameNodes.{IsSameJournal}
-use Rattle.determined_nodes.specs.TmpFates.{failures, refusals}
+use Rattle.mirrored_nets.specs.Fates.{failures, refusals}
 use Rattle.determined_nodes.proofs.ArmedRows.{called, tried_one}
 use Rattle.determined_nodes.proofs.OneStep.{FirstsSame, PlansArePlain, all_due_same, first_entry, firsts_same}
 use Rattle.determined_nodes.proofs.RecordCalls.{AsLanded, Fits, fate_disk, fates_one}
-use Rattle.determined_nodes.proofs.TmpRows.{failures_join, parts_armed}
+use Rattle.mirrored_nets.proofs.CallRows.{failures_join}
+use Rattle.mirrored_nets.proofs.StruckRows.{parts_armed}
 use Rattle.determined_nodes.proofs.TriedOuts.{NoRecord, all_there, due_unrecorded, few_failures, leaving_calls, rows_few, rows_there}
 
 -- A turn's steps, all of which were done, and the calls for them: behind those of its line, and before those by which the journal is written anew.

@@ -18,12 +18,12 @@ use Rattle.site_memory.specs.ToldCalls.{AreArmed}
 use Rattle.site_model.specs.Told.{Made}
 use Rattle.determined_nodes.specs.Outs.{LeaveOneWay}
 use Rattle.determined_nodes.specs.SameNodes.{IsSameBehind, IsSameJournal, IsSameNode}
-use Rattle.determined_nodes.specs.TmpFates.{refusals}
+use Rattle.mirrored_nets.specs.Fates.{refusals}
 use Rattle.determined_nodes.proofs.ArmedRows.{called, tried_one}
 use Rattle.determined_nodes.proofs.OneStep.{PlansArePlain, first_entry}
 use Rattle.determined_nodes.proofs.RecordCalls.{Fits, halts_only, unsure_is}
 use Rattle.determined_nodes.proofs.StepsBehind.{LeftBy, behind_same}
-use Rattle.determined_nodes.proofs.TmpRows.{parts_armed}
+use Rattle.mirrored_nets.proofs.StruckRows.{parts_armed}
 use Rattle.determined_nodes.proofs.TwoRewritings.{Ended, ended_one}
 use Rattle.determined_nodes.proofs.TwoRuns.{DidSteps, StepsSame, entries, fate, first_armed, fits_here, steps_same_two}
 

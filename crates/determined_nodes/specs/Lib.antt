@@ -1,3 +1,3 @@
 pub mod Outs
 pub mod SameNodes
-pub mod TmpFates
+pub mod TurnsAreDetermined

@@ -6,7 +6,7 @@ ghost use Rattle.wire_posts.specs.Envelopes.{IsTextOf};
 ghost use Rattle.determined_nodes.specs.Outs.{LeaveOneWay};
 
 /// Outs leave by one row of calls.
-#[tactic(auto, using(crate::proofs::Leavings::leave_one_way, crate::proofs::ArmedRows::breaks_within, crate::proofs::RecordCalls::halts_only, crate::proofs::TriedOuts::rows_there, crate::proofs::OneStep::firsts_same, crate::proofs::TwoRuns::steps_same_two, crate::proofs::TwoRewritings::ended_one, crate::proofs::RenewedJournals::ends_so, crate::proofs::StepsBehind::behind_same, crate::proofs::TwoTurns::same_turns))]
+#[tactic(auto, using(crate::proofs::Leavings::leave_one_way, crate::proofs::TurnsAreDetermined::turns_are_determined))]
 pub fn outs_leave_one_way()
     ensures { ((post : Post) → (x : List ℕ) → (y : List ℕ) → IsTextOf post x → IsTextOf post y → x ≡ y) → LeaveOneWay }
 {
