@@ -57,7 +57,7 @@ use Rattle.determined_nodes.proofs.RenewedJournals.{EndsSo, RoseBetween, ends_so
 use Rattle.determined_nodes.proofs.StepsBehind.{LeftBy}
 use Rattle.determined_nodes.proofs.TriedOuts.{NoRecord, due_unrecorded, rows_quiet, tried_sendings}
 use Rattle.determined_nodes.proofs.TwoRuns.{DidSteps}
-use Rattle.determined_nodes.proofs.TwoTurns.{HaltedAt, Hearing, LineIs, WentOn, Went, turned_of}
+use Rattle.determined_nodes.proofs.TwoTurns.{Hearing, LineIs, Went, turned_of}
 
 -- A machine of the same files keeps the same.
 pub keeps_on : (j : Journal) (bodies : List (List ℕ)) (s t : MemSite) → opening_in s.device ≡ opening_in t.device → calls_in s.device ≡ calls_in t.device → Keeps j bodies (told_of s) → Keeps j bodies (told_of t)
@@ -334,7 +334,7 @@ module _ (hold : LinksHold) (fail : CallsFailAsTold) (reply : StepsReply) (law :
     rises : RoseBetween turn.behind new → 1 ≤ refusals E.anew
     rises rose = let a = beside rose in let b = sums in let f = first_few in omega (arith, a, b, f)
 
-    abbrev its_steps : DidSteps since fails W.now W.meaning (calm (seen n)) W.line made
+    abbrev its_steps : DidSteps true since fails W.now W.meaning (calm (seen n)) W.line made
     its_steps = record {
       first = A.first;
       rest = A.rest;
@@ -355,7 +355,7 @@ module _ (hold : LinksHold) (fail : CallsFailAsTold) (reply : StepsReply) (law :
       armed = row;
     }
 
-    its_left : LeftBy since fails W.now W.meaning (calm (seen n)) turn.node W.line made its_steps
+    its_left : LeftBy true since fails W.now W.meaning (calm (seen n)) turn.node W.line made its_steps
     its_left = record {
       book = ran.book;
       effects = ran.effects;
@@ -452,8 +452,7 @@ module _ (hold : LinksHold) (fail : CallsFailAsTold) (reply : StepsReply) (law :
         are = halt_made;
         armed = row;
         same = subst (λ (z : State). z ≡ record (calm (seen n)) { journal = z.journal; halted = true }) (sym rested.node) V.halts.same;
-        answers = rested.answers;
-      });
+      }) rested.answers;
       grown = halt_calls ∙ ap (λ z. calls_in old.device ++ z) (sym halt_made);
       opening = ap (λ (z : MemSite). opening_in z.device) rested.site ∙ opening_kept c turn.behind _ (V.halts.moments bodies keeps) ∙ opening_here;
       arming = kept_arming;

@@ -11,3 +11,4 @@ mod StepsBehind
 mod TwoTurns
 mod DidTurns
 mod TurnsAreDetermined
+mod TwoHalts

@@ -47,7 +47,7 @@ landed_one entry other false true e (inl none) = sym none ∙ e
 landed_one entry other false false e (inl none) = refl
 
 -- what the steps of a turn left
-pub record LeftBy (since fails now : ℕ) (meaning : Meaning) (n node : State) (line made : List Made) (X : DidSteps since fails now meaning n line made) : Type 0 where
+pub record LeftBy (goes : Bool) (since fails now : ℕ) (meaning : Meaning) (n node : State) (line made : List Made) (X : DidSteps goes since fails now meaning n line made) : Type 0 where
   pub book : node.book ≡ book_behind n.book (X.first ∷ X.rest)
   pub effects : node.effects ≡ n.effects ++ came_of (X.first ∷ X.rest)
   pub kept : node.kept ≡ kept_behind n.kept (X.first ∷ X.rest)
@@ -59,10 +59,10 @@ pub record LeftBy (since fails now : ℕ) (meaning : Meaning) (n node : State) (
   pub unshut : node.journal.unshut ≡ n.journal.unshut
   pub end : node.journal.end ≡ length (frames (X.bodies ++ landed_of (deeds_of (X.d ∷ X.ds))))
 
-module _ (since fails now : ℕ) (meaning : Meaning) (n node : State) (line made : List Made) (X : DidSteps since fails now meaning n line made) (L : LeftBy since fails now meaning n node line made X) where
+module _ (goes : Bool) (since fails now : ℕ) (meaning : Meaning) (n node : State) (line made : List Made) (X : DidSteps goes since fails now meaning n line made) (L : LeftBy goes since fails now meaning n node line made X) where
   pub end_is : node.journal.end ≡ n.journal.end + length (frames (landed_by X.first.landed X.first.entry))
   end_is =
-      let none = none_lands (kept_by (if_landed X.first.landed X.first.entry) n.kept) X.rest X.ds (free since fails now meaning n line made X) X.doings.1 in
+      let none = none_lands (kept_by (if_landed X.first.landed X.first.entry) n.kept) X.rest X.ds (free goes since fails now meaning n line made X) X.doings.1 in
       let same = ap (λ z. length (frames (X.bodies ++ z))) (λ i. X.doings.0.landed i ++ none i) in
       let longer = frames_longer X.bodies (landed_by X.first.landed X.first.entry ++ []) in
       let alone = ap (λ z. length (frames z)) (append-nil (landed_by X.first.landed X.first.entry)) in
@@ -70,8 +70,8 @@ module _ (since fails now : ℕ) (meaning : Meaning) (n node : State) (line made
       let b = X.end in
       omega (arith, same, longer, alone, a, b)
 
-module _ (since fails now then : ℕ) (meaning heard : Meaning) (n m node other : State) (line made also_line also : List Made) (X : DidSteps since fails now meaning n line made) (Y : DidSteps since fails then heard m also_line also)
-    (L : LeftBy since fails now meaning n node line made X) (M : LeftBy since fails then heard m other also_line also Y) (same : IsSameBehind n m) (runs : n.halted ≡ false)
+module _ (goes : Bool) (since fails now then : ℕ) (meaning heard : Meaning) (n m node other : State) (line made also_line also : List Made) (X : DidSteps goes since fails now meaning n line made) (Y : DidSteps goes since fails then heard m also_line also)
+    (L : LeftBy goes since fails now meaning n node line made X) (M : LeftBy goes since fails then heard m other also_line also Y) (same : IsSameBehind n m) (runs : n.halted ≡ false)
     (S : StepsSame X.first Y.first X.rest Y.rest X.status Y.status X.d Y.d X.ds Y.ds) (entries : X.first.entry ≡ Y.first.entry) where
   j : IsSameJournal n.journal m.journal
   j = same.same.journal runs
@@ -87,7 +87,7 @@ module _ (since fails now then : ℕ) (meaning heard : Meaning) (n m node other 
       halted = L.runs ∙ same.same.halted ∙ sym M.runs;
       journal = λ going. record {
         live = L.live ∙ j.live ∙ sym M.live;
-        end = end_is since fails now meaning n node line made X L ∙ (λ i. j.end i + length (frames (bodies_by (landed i)))) ∙ sym (end_is since fails then heard m other also_line also Y M);
+        end = end_is goes since fails now meaning n node line made X L ∙ (λ i. j.end i + length (frames (bodies_by (landed i)))) ∙ sym (end_is goes since fails then heard m other also_line also Y M);
         limit = L.limit ∙ j.limit ∙ sym M.limit;
         generation = L.generation ∙ j.generation ∙ sym M.generation;
         unshut = L.unshut ∙ j.unshut ∙ sym M.unshut;

@@ -1,5 +1,5 @@
 -- Two turns of nodes that are alike, whose steps went to their end: the steps and the calls for them are the same.
-use Rattle.std.specs.Prelude.{ℕ, List, [], ◌∷◌, ◌++◌, ◌+◌, ◌≡◌, ◌≤◌, ◌⊎◌, Bool, false, Option, Some, None, length, map}
+use Rattle.std.specs.Prelude.{ℕ, List, [], ◌∷◌, ◌++◌, ◌+◌, ◌≡◌, ◌≤◌, ◌⊎◌, Bool, true, false, Option, Some, None, length, map}
 use Rattle.std.specs.List.{AllByRecursion}
 use Rattle.std.proofs.Common.{ap, arith, inl, inr, refl, subst, sym, ◌∙◌}
 use Rattle.std.proofs.lemmas.List.{append_assoc, map-append}
@@ -25,13 +25,26 @@ use Rattle.mirrored_nets.proofs.CallRows.{failures_join}
 use Rattle.mirrored_nets.proofs.StruckRows.{parts_armed}
 use Rattle.determined_nodes.proofs.TriedOuts.{NoRecord, all_there, due_unrecorded, few_failures, leaving_calls, rows_few, rows_there}
 
--- A turn's steps, all of which were done, and the calls for them: behind those of its line, and before those by which the journal is written anew.
-pub record DidSteps (since fails now : ℕ) (meaning : Meaning) (n : State) (line made : List Made) : Type 0 where
+-- behind the first comes what is due, where the call goes on
+abbrev pub Behind : Bool → ℕ → Book → List TurnStep → Type 0
+Behind true now b rest = DueSteps now b [] rest
+Behind false now b rest = rest ≡ []
+
+behind_free : (goes : Bool) (now : ℕ) (b : Book) (rest : List TurnStep) → Behind goes now b rest → AllByRecursion NoRecord rest
+behind_free true now b rest due = due_unrecorded due.done rest due.are
+behind_free false now b rest e = subst (AllByRecursion NoRecord) (sym e) tt
+
+rests_same : LeaveOneWay → (goes : Bool) (now : ℕ) (b c : Book) (ss ts : List TurnStep) → b ≡ c → Behind goes now b ss → Behind goes now c ts → ss ≡ ts
+rests_same one true now b c ss ts e h k = all_due_same one now b c ss ts e h k
+rests_same one false now b c ss ts e h k = h ∙ sym k
+
+-- A call's steps, all of which were done, and the calls for them: behind those of its line, and before those by which the journal is written anew.
+pub record DidSteps (goes : Bool) (since fails now : ℕ) (meaning : Meaning) (n : State) (line made : List Made) : Type 0 where
   pub first : TurnStep
   pub rest : List TurnStep
   pub status : ℕ
   pub is : IsFirst n.book now meaning first status
-  pub due : DueSteps now first.behind [] rest
+  pub due : Behind goes now first.behind rest
   pub d : Doing
   pub ds : List Doing
   pub bodies : List (List ℕ)
@@ -45,9 +58,9 @@ pub record DidSteps (since fails now : ℕ) (meaning : Meaning) (n : State) (lin
   pub are : made ≡ line ++ (calls_of (d ∷ ds) ++ anew)
   pub armed : AreArmed since fails made
 
-module _ (since fails now : ℕ) (meaning : Meaning) (n : State) (line made : List Made) (X : DidSteps since fails now meaning n line made) where
+module _ (goes : Bool) (since fails now : ℕ) (meaning : Meaning) (n : State) (line made : List Made) (X : DidSteps goes since fails now meaning n line made) where
   pub free : AllByRecursion NoRecord X.rest
-  free = due_unrecorded X.due.done X.rest X.due.are
+  free = behind_free goes now X.first.behind X.rest X.due
 
   -- what its first step may have of the disk
   pub fate : IsFateAt X.first.landed X.first.entry n.journal.live n.journal.limit n.journal.end X.d.first X.d.refused
@@ -106,8 +119,8 @@ pub record StepsSame (s t : TurnStep) (ss ts : List TurnStep) (status other : �
   pub rest : ss ≡ ts
   pub calls : calls_of (d ∷ ds) ≡ calls_of (e ∷ es)
 
-module _ (one : LeaveOneWay) (plain : PlansArePlain) (since fails now then : ℕ) (meaning heard : Meaning) (n m : State) (line made also_line also : List Made) (X : DidSteps since fails now meaning n line made)
-    (Y : DidSteps since fails then heard m also_line also) (book : n.book ≡ m.book) (journal : IsSameJournal n.journal m.journal) (lines : line ≡ also_line) (times : now ≡ then) (means : meaning ≡ heard) where
+module _ (one : LeaveOneWay) (plain : PlansArePlain) (goes : Bool) (since fails now then : ℕ) (meaning heard : Meaning) (n m : State) (line made also_line also : List Made) (X : DidSteps goes since fails now meaning n line made)
+    (Y : DidSteps goes since fails then heard m also_line also) (book : n.book ≡ m.book) (journal : IsSameJournal n.journal m.journal) (lines : line ≡ also_line) (times : now ≡ then) (means : meaning ≡ heard) where
   its_first : IsFirst n.book now meaning Y.first Y.status
   its_first =
       subst (λ t. IsFirst n.book t meaning Y.first Y.status) (sym times)
@@ -121,28 +134,28 @@ module _ (one : LeaveOneWay) (plain : PlansArePlain) (since fails now then : ℕ
       subst (λ e. IsFateAt Y.first.landed e n.journal.live n.journal.limit n.journal.end Y.d.first Y.d.refused) (sym entries)
       (subst (λ k. IsFateAt Y.first.landed Y.first.entry k n.journal.limit n.journal.end Y.d.first Y.d.refused) (sym journal.live)
       (subst (λ k. IsFateAt Y.first.landed Y.first.entry m.journal.live k n.journal.end Y.d.first Y.d.refused) (sym journal.limit)
-      (subst (λ k. IsFateAt Y.first.landed Y.first.entry m.journal.live m.journal.limit k Y.d.first Y.d.refused) (sym journal.end) (fate since fails then heard m also_line also Y))))
+      (subst (λ k. IsFateAt Y.first.landed Y.first.entry m.journal.live m.journal.limit k Y.d.first Y.d.refused) (sym journal.end) (fate goes since fails then heard m also_line also Y))))
 
   its_armed : AreArmed (since + length line) fails Y.d.first
-  its_armed = subst (λ z. AreArmed (since + length z) fails Y.d.first) (sym lines) (first_armed since fails then heard m also_line also Y)
+  its_armed = subst (λ z. AreArmed (since + length z) fails Y.d.first) (sym lines) (first_armed goes since fails then heard m also_line also Y)
 
   fated : (X.d.first ≡ Y.d.first) × AsLanded X.first.entry X.first.landed Y.first.landed
   fated =
       fates_one (since + length line) fails n.journal.live n.journal.limit n.journal.end X.first.entry X.first.landed Y.first.landed X.d.first Y.d.first X.d.refused Y.d.refused
-      (fits_here since fails now meaning n line made X) (fate since fails now meaning n line made X) its_fate X.refused Y.refused (first_armed since fails now meaning n line made X) its_armed
+      (fits_here goes since fails now meaning n line made X) (fate goes since fails now meaning n line made X) its_fate X.refused Y.refused (first_armed goes since fails now meaning n line made X) its_armed
 
   firsts : FirstsSame X.first Y.first X.status Y.status
   firsts = firsts_same one plain n.book now meaning X.first Y.first X.status Y.status X.is its_first fated.1
 
   rests : X.rest ≡ Y.rest
-  rests = all_due_same one now X.first.behind Y.first.behind X.rest Y.rest firsts.same.behind X.due (subst (λ t. DueSteps t Y.first.behind [] Y.rest) (sym times) Y.due)
+  rests = rests_same one goes now X.first.behind Y.first.behind X.rest Y.rest firsts.same.behind X.due (subst (λ t. Behind goes t Y.first.behind Y.rest) (sym times) Y.due)
 
-  outs_same : outs since fails now meaning n line made X ≡ outs since fails then heard m also_line also Y
+  outs_same : outs goes since fails now meaning n line made X ≡ outs goes since fails then heard m also_line also Y
   outs_same =
-      tried_one (since + length line + length X.d.first) fails (outs since fails now meaning n line made X) (outs since fails then heard m also_line also Y) (outs_armed since fails now meaning n line made X)
-      (subst (λ z. AreArmed (since + length line + length z) fails (outs since fails then heard m also_line also Y)) (sym fated.0)
-      (subst (λ z. AreArmed (since + length z + length Y.d.first) fails (outs since fails then heard m also_line also Y)) (sym lines) (outs_armed since fails then heard m also_line also Y)))
-      (outs_there since fails now meaning n line made X ∙ (λ i. map call_by (firsts.same.leaving i) ++ leaving_calls (rests i)) ∙ sym (outs_there since fails then heard m also_line also Y))
+      tried_one (since + length line + length X.d.first) fails (outs goes since fails now meaning n line made X) (outs goes since fails then heard m also_line also Y) (outs_armed goes since fails now meaning n line made X)
+      (subst (λ z. AreArmed (since + length line + length z) fails (outs goes since fails then heard m also_line also Y)) (sym fated.0)
+      (subst (λ z. AreArmed (since + length z + length Y.d.first) fails (outs goes since fails then heard m also_line also Y)) (sym lines) (outs_armed goes since fails then heard m also_line also Y)))
+      (outs_there goes since fails now meaning n line made X ∙ (λ i. map call_by (firsts.same.leaving i) ++ leaving_calls (rests i)) ∙ sym (outs_there goes since fails then heard m also_line also Y))
 
   pub steps_same_two : StepsSame X.first Y.first X.rest Y.rest X.status Y.status X.d Y.d X.ds Y.ds
   steps_same_two = record {

@@ -24,6 +24,7 @@ use Rattle.determined_nodes.proofs.OneStep.{PlansArePlain, first_entry}
 use Rattle.determined_nodes.proofs.RecordCalls.{Fits, halts_only, unsure_is}
 use Rattle.determined_nodes.proofs.StepsBehind.{LeftBy, behind_same}
 use Rattle.mirrored_nets.proofs.StruckRows.{parts_armed}
+use Rattle.determined_nodes.proofs.TwoHalts.{HaltedAt, SameHalts, not_halted, same_halts, turned_back}
 use Rattle.determined_nodes.proofs.TwoRewritings.{Ended, ended_one}
 use Rattle.determined_nodes.proofs.TwoRuns.{DidSteps, StepsSame, entries, fate, first_armed, fits_here, steps_same_two}
 
@@ -56,40 +57,21 @@ pub record Hearing (bytes : List ℕ) : Type 0 where
 
 -- a turn whose steps went to their end
 pub record WentOn (since fails : ℕ) (bytes : List ℕ) (r : Turned) (n m : State) (made : List Made) (h : Hearing bytes) : Type 0 where
-  pub steps : DidSteps since fails h.now h.meaning (calm n) h.line made
+  pub steps : DidSteps true since fails h.now h.meaning (calm n) h.line made
   pub node : State
-  pub left : LeftBy since fails h.now h.meaning (calm n) node h.line made steps
+  pub left : LeftBy true since fails h.now h.meaning (calm n) node h.line made steps
   pub ended : (before : ℕ) → AreArmed before fails steps.anew → Ended before fails node m steps.anew
   pub answers : r ≡ (if m.halted then turneds.Halted else turned_of (is_tick h.meaning) steps.status)
-
--- one that halted as the record of its first step was appended
-pub record HaltedAt (since fails : ℕ) (bytes : List ℕ) (r : Turned) (n m : State) (made : List Made) (h : Hearing bytes) : Type 0 where
-  pub step : TurnStep
-  pub status : ℕ
-  pub is_first : IsFirst n.book h.now h.meaning step status
-  pub entry : Record
-  pub records : step.entry ≡ Some entry
-  pub fits : Fits (Some entry) n.journal.end n.journal.limit
-  pub first : List Made
-  pub makes : Makes appends.Unsure n.journal.live n.journal.end (bytes_of entry) first
-  pub some : 1 ≤ refusals first
-  pub are : made ≡ h.line ++ first
-  pub armed : AreArmed since fails made
-  pub same : m ≡ record (calm n) { journal = m.journal; halted = true }
-  pub answers : r ≡ turneds.Halted
 
 -- either
 pub data Went (since fails : ℕ) (bytes : List ℕ) (r : Turned) (n m : State) (made : List Made) (h : Hearing bytes) : Type 0 where
   on : WentOn since fails bytes r n m made h → Went since fails bytes r n m made h
-  off : HaltedAt since fails bytes r n m made h → Went since fails bytes r n m made h
+  off : HaltedAt since fails h.now h.meaning (calm n) m h.line made → r ≡ turneds.Halted → Went since fails bytes r n m made h
 
 pub record SameTurns (r s : Turned) (m q : State) (made also : List Made) : Type 0 where
   pub answer : r ≡ s
   pub calls : made ≡ also
   pub node : IsSameBehind m q
-
-some_same : (r s : Record) → Some r ≡ Some s → r ≡ s
-some_same r s e = cc
 
 module _ (one : LeaveOneWay) (plain : PlansArePlain) (since fails : ℕ) (bytes : List ℕ) (means_one : (a b : Meaning) → Means All bytes a → Means All bytes b → a ≡ b)
     (waits_one : (a b : Bool) → Waits bytes a → Waits bytes b → a ≡ b) (r s : Turned) (n m p q : State) (made also : List Made) (same : IsSameNode n p) (runs : n.halted ≡ false)
@@ -110,22 +92,22 @@ module _ (one : LeaveOneWay) (plain : PlansArePlain) (since fails : ℕ) (bytes 
   front_armed line rest all e armed = (parts_armed since fails line rest (subst (AreArmed since fails) e armed)).0
 
   module _ (X : WentOn since fails bytes r n m made h) (Y : WentOn since fails bytes s p q also k) where
-    abbrev x : DidSteps since fails h.now h.meaning (calm n) h.line made
+    abbrev x : DidSteps true since fails h.now h.meaning (calm n) h.line made
     x = X.steps
 
-    abbrev y : DidSteps since fails k.now k.meaning (calm p) k.line also
+    abbrev y : DidSteps true since fails k.now k.meaning (calm p) k.line also
     y = Y.steps
 
     tried_lines : h.line ≡ k.line
     tried_lines = lines (front_armed h.line (calls_of (x.d ∷ x.ds) ++ x.anew) made x.are x.armed) (front_armed k.line (calls_of (y.d ∷ y.ds) ++ y.anew) also y.are y.armed)
 
     S : StepsSame x.first y.first x.rest y.rest x.status y.status x.d y.d x.ds y.ds
-    S = steps_same_two one plain since fails h.now k.now h.meaning k.meaning (calm n) (calm p) h.line made k.line also x y same.book j tried_lines times heard
+    S = steps_same_two one plain true since fails h.now k.now h.meaning k.meaning (calm n) (calm p) h.line made k.line also x y same.book j tried_lines times heard
 
     left : IsSameBehind X.node Y.node
     left =
-        behind_same since fails h.now k.now h.meaning k.meaning (calm n) (calm p) X.node Y.node h.line made k.line also x y X.left Y.left calmed runs S
-        (entries one plain since fails h.now k.now h.meaning k.meaning (calm n) (calm p) h.line made k.line also x y same.book j tried_lines times heard)
+        behind_same true since fails h.now k.now h.meaning k.meaning (calm n) (calm p) X.node Y.node h.line made k.line also x y X.left Y.left calmed runs S
+        (entries one plain true since fails h.now k.now h.meaning k.meaning (calm n) (calm p) h.line made k.line also x y same.book j tried_lines times heard)
 
     parted : (calls anew all line : List Made) → all ≡ line ++ (calls ++ anew) → AreArmed since fails all → AreArmed (since + length line + length calls) fails anew
     parted calls anew all line e armed = (parts_armed (since + length line) fails calls anew (parts_armed since fails line (calls ++ anew) (subst (AreArmed since fails) e armed)).1).1
@@ -149,89 +131,29 @@ module _ (one : LeaveOneWay) (plain : PlansArePlain) (since fails : ℕ) (bytes 
       node = ends.1;
     }
 
-  module _ (X : HaltedAt since fails bytes r n m made h) (Y : HaltedAt since fails bytes s p q also k) where
+  module _ (X : HaltedAt since fails h.now h.meaning (calm n) m h.line made) (Y : HaltedAt since fails k.now k.meaning (calm p) q k.line also) (x_off : r ≡ turneds.Halted) (y_off : s ≡ turneds.Halted) where
     halted_lines : h.line ≡ k.line
     halted_lines = lines (front_armed h.line X.first made X.are X.armed) (front_armed k.line Y.first also Y.are Y.armed)
 
-    entry_one : X.entry ≡ Y.entry
-    entry_one =
-        some_same X.entry Y.entry
-        (sym X.records ∙ first_entry n.book h.now h.meaning X.step Y.step X.status Y.status X.is_first
-        (subst (λ t. IsFirst n.book t h.meaning Y.step Y.status) (sym times)
-        (subst (λ z. IsFirst n.book k.now z Y.step Y.status) (sym heard) (subst (λ b. IsFirst b k.now k.meaning Y.step Y.status) (sym same.book) Y.is_first))) ∙ Y.records)
-
-    its_makes : Makes appends.Unsure n.journal.live n.journal.end (bytes_of X.entry) Y.first
-    its_makes =
-        subst (λ e. Makes appends.Unsure n.journal.live n.journal.end (bytes_of e) Y.first) (sym entry_one)
-        (subst (λ z. Makes appends.Unsure z n.journal.end (bytes_of Y.entry) Y.first) (sym j.live) (subst (λ z. Makes appends.Unsure p.journal.live z (bytes_of Y.entry) Y.first) (sym j.end) Y.makes))
-
-    x_armed : AreArmed (since + length h.line) fails X.first
-    x_armed = (parts_armed since fails h.line X.first (subst (AreArmed since fails) X.are X.armed)).1
-
-    y_armed : AreArmed (since + length h.line) fails Y.first
-    y_armed = subst (λ z. AreArmed (since + length z) fails Y.first) (sym halted_lines) (parts_armed since fails k.line Y.first (subst (AreArmed since fails) Y.are Y.armed)).1
-
-    firsts_one : X.first ≡ Y.first
-    firsts_one =
-        unsure_is (since + length h.line) fails n.journal.live n.journal.end (bytes_of X.entry) X.first x_armed X.makes X.some
-        ∙ sym (unsure_is (since + length h.line) fails n.journal.live n.journal.end (bytes_of X.entry) Y.first y_armed its_makes Y.some)
-
-    off_halted : m.halted ≡ true
-    off_halted = ap (λ (z : State). z.halted) X.same
+    halts : SameHalts m q made also
+    halts = same_halts since fails h.now k.now h.meaning k.meaning (calm n) (calm p) m q h.line k.line made also calmed j times heard halted_lines X Y
 
     both_off : SameTurns r s m q made also
-    both_off = record {
-      answer = X.answers ∙ sym Y.answers;
-      calls = X.are ∙ (λ i. halted_lines i ++ firsts_one i) ∙ sym Y.are;
-      node = record {
-        same = record {
-          book = ap (λ (z : State). z.book) X.same ∙ same.book ∙ sym (ap (λ (z : State). z.book) Y.same);
-          kept = ap (λ (z : State). z.kept) X.same ∙ same.kept ∙ sym (ap (λ (z : State). z.kept) Y.same);
-          halted = off_halted ∙ sym (ap (λ (z : State). z.halted) Y.same);
-          journal = λ going. absurd (true≢false (sym off_halted ∙ going));
-        };
-        effects = ap (λ (z : State). z.effects) X.same ∙ sym (ap (λ (z : State). z.effects) Y.same);
-      };
-    }
+    both_off = record { answer = x_off ∙ sym y_off; calls = halts.calls; node = halts.node }
 
   -- not one so and one so
-  module _ (X : WentOn since fails bytes r n m made h) (Y : HaltedAt since fails bytes s p q also k) where
-    abbrev w : DidSteps since fails h.now h.meaning (calm n) h.line made
-    w = X.steps
-
+  module _ (X : WentOn since fails bytes r n m made h) (Y : HaltedAt since fails k.now k.meaning (calm p) q k.line also) where
     mixed_lines : h.line ≡ k.line
-    mixed_lines = lines (front_armed h.line (calls_of (w.d ∷ w.ds) ++ w.anew) made w.are w.armed) (front_armed k.line Y.first also Y.are Y.armed)
-
-    entry_is : w.first.entry ≡ Some Y.entry
-    entry_is =
-        first_entry n.book h.now h.meaning w.first Y.step w.status Y.status w.is
-        (subst (λ t. IsFirst n.book t h.meaning Y.step Y.status) (sym times)
-        (subst (λ z. IsFirst n.book k.now z Y.step Y.status) (sym heard) (subst (λ b. IsFirst b k.now k.meaning Y.step Y.status) (sym same.book) Y.is_first))) ∙ Y.records
-
-    mixed_makes : Makes appends.Unsure n.journal.live n.journal.end (bytes_of Y.entry) Y.first
-    mixed_makes = subst (λ z. Makes appends.Unsure z n.journal.end (bytes_of Y.entry) Y.first) (sym j.live) (subst (λ z. Makes appends.Unsure p.journal.live z (bytes_of Y.entry) Y.first) (sym j.end) Y.makes)
+    mixed_lines = lines (front_armed h.line (calls_of (X.steps.d ∷ X.steps.ds) ++ X.steps.anew) made X.steps.are X.steps.armed) (front_armed k.line Y.first also Y.are Y.armed)
 
     never : ⊥
-    never =
-        halts_only (since + length h.line) fails n.journal.live n.journal.limit n.journal.end Y.entry w.first.landed w.d.first Y.first w.d.refused
-        (subst (λ o. Fits o n.journal.end n.journal.limit) entry_is (fits_here since fails h.now h.meaning (calm n) h.line made w))
-        (subst (λ o. IsFateAt w.first.landed o n.journal.live n.journal.limit n.journal.end w.d.first w.d.refused) entry_is (fate since fails h.now h.meaning (calm n) h.line made w)) mixed_makes w.refused Y.some
-        (first_armed since fails h.now h.meaning (calm n) h.line made w)
-        (subst (λ z. AreArmed (since + length z) fails Y.first) (sym mixed_lines) (parts_armed since fails k.line Y.first (subst (AreArmed since fails) Y.are Y.armed)).1)
+    never = not_halted true since fails h.now k.now h.meaning k.meaning (calm n) (calm p) q h.line k.line made also same.book j times heard mixed_lines X.steps Y
 
 pub same_turns : LeaveOneWay → PlansArePlain → (since fails : ℕ) (bytes : List ℕ) → ((a b : Meaning) → Means All bytes a → Means All bytes b → a ≡ b) → ((a b : Bool) → Waits bytes a → Waits bytes b → a ≡ b)
     → (r s : Turned) (n m p q : State) (made also : List Made) → IsSameNode n p → n.halted ≡ false → (h k : Hearing bytes) → h.now ≡ k.now → Went since fails bytes r n m made h → Went since fails bytes s p q also k
     → SameTurns r s m q made also
 same_turns one plain since fails bytes mean wait r s n m p q made also same runs h k times (Went.on X) (Went.on Y) = both_on one plain since fails bytes mean wait r s n m p q made also same runs h k times X Y
-same_turns one plain since fails bytes mean wait r s n m p q made also same runs h k times (Went.off X) (Went.off Y) = both_off one plain since fails bytes mean wait r s n m p q made also same runs h k times X Y
-same_turns one plain since fails bytes mean wait r s n m p q made also same runs h k times (Went.on X) (Went.off Y) = absurd (never one plain since fails bytes mean wait r s n m p q made also same runs h k times X Y)
-same_turns one plain since fails bytes mean wait r s n m p q made also same runs h k times (Went.off X) (Went.on Y) =
+same_turns one plain since fails bytes mean wait r s n m p q made also same runs h k times (Went.off X e) (Went.off Y f) = both_off one plain since fails bytes mean wait r s n m p q made also same runs h k times X Y e f
+same_turns one plain since fails bytes mean wait r s n m p q made also same runs h k times (Went.on X) (Went.off Y f) = absurd (never one plain since fails bytes mean wait r s n m p q made also same runs h k times X Y)
+same_turns one plain since fails bytes mean wait r s n m p q made also same runs h k times (Went.off X e) (Went.on Y) =
     absurd (never one plain since fails bytes mean wait s r p q n m also made (turned_back same) (sym same.halted ∙ runs) k h (sym times) Y X)
-  where
-    turned_back : IsSameNode n p → IsSameNode p n
-    turned_back e = record {
-      book = sym e.book;
-      kept = sym e.kept;
-      halted = sym e.halted;
-      journal = λ going. let j = e.journal (e.halted ∙ going) in record { live = sym j.live; end = sym j.end; limit = sym j.limit; generation = sym j.generation; unshut = sym j.unshut; unsure = sym j.unsure };
-    }
