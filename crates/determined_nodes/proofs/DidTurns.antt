@@ -49,10 +49,11 @@ use Rattle.mirrored_nets.proofs.RewritingCalls.{renewed}
 use Rattle.mirrored_nets.proofs.StruckRows.{few_refused, parts_armed}
 use Rattle.mirrored_nets.proofs.StruckSteps.{steps_come}
 use Rattle.mirrored_nets.proofs.ToldMachines.{armed_row}
-use Rattle.mirrored_nets.proofs.WholeTurns.{DidWhole, beside_so, did_whole, room}
+use Rattle.mirrored_nets.proofs.WholeTurns.{DidWhole, beside_so, did_whole}
 use Rattle.determined_nodes.specs.TurnsAreDetermined.{HasTurned}
 use Rattle.determined_nodes.proofs.KeptOpenings.{opening_kept}
 use Rattle.determined_nodes.proofs.RecordCalls.{Fits, fate_disk, fate_few}
+use Rattle.determined_nodes.proofs.RecordRoom.{record_fits}
 use Rattle.determined_nodes.proofs.RenewedJournals.{EndsSo, RoseBetween, ends_so, same_calls}
 use Rattle.determined_nodes.proofs.StepsBehind.{LeftBy}
 use Rattle.determined_nodes.proofs.TriedOuts.{NoRecord, due_unrecorded, rows_quiet, tried_sendings}
@@ -170,11 +171,7 @@ module _ (hold : LinksHold) (fail : CallsFailAsTold) (reply : StepsReply) (law :
           ends.answers
 
   fits_so : (entry : Option Record) → IfSome entry (λ z. IsRecord Two z (bytes_of z)) → Fits entry (length (frames bodies)) n.journal.limit
-  fits_so entry formed z e =
-      let a = room n.journal bodies old H.goes.room H.goes.open_is.keeps in
-      let b = (law Two z (bytes_of z) (subst (λ o. IfSome o (λ x. IsRecord Two x (bytes_of x))) e formed)).0.most in
-      let l = H.goes.limit in
-      omega (arith, a, b, l)
+  fits_so = record_fits law n.journal bodies old H.goes.room H.goes.open_is.keeps H.goes.limit
 
   disk_here : c.tally.disk ≡ old.tally.disk
   disk_here = ap (λ (z : MemSite). z.tally.disk) others

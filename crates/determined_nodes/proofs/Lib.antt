@@ -12,3 +12,6 @@ mod TwoTurns
 mod DidTurns
 mod TurnsAreDetermined
 mod TwoHalts
+mod RecordRoom
+mod DidRequests
+mod RequestsAreDetermined

@@ -1,3 +1,5 @@
 pub mod Outs
 pub mod SameNodes
+pub mod AlikeCalls
 pub mod TurnsAreDetermined
+pub mod RequestsAreDetermined

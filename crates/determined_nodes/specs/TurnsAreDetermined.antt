@@ -1,33 +1,19 @@
 -- Turns of nodes that are alike.
-use Rattle.std.specs.Prelude.{ℕ, List, ◌≡◌, false, true, Some, length, take}
-use Rattle.at_base.specs.declared.record.Record.{Record}
+use Rattle.std.specs.Prelude.{ℕ, List, ◌≡◌, true, take}
 use Rattle.http_post.specs.Conversations.{Waits}
-use Rattle.journal_at.specs.declared.version.Version.TheVariants.{Two}
 use Rattle.memory_net.specs.Calls.{Turns}
-use Rattle.mirrored_nets.specs.Took.{Adds, HasRoom, IsTriedLine}
-use Rattle.node_at.specs.Starts.{IsOpen}
+use Rattle.mirrored_nets.specs.Took.{Adds, IsTriedLine}
 use Rattle.node_at.specs.State.{seen}
 use Rattle.node_at.specs.declared.node.Node.{Node}
 use Rattle.node_at.specs.declared.shrink.Shrunk.TheVariants.{NoMemory}
 use Rattle.node_at.specs.declared.turn.Turned.{Turned}
 use Rattle.node_at.specs.declared.turn.Turned.TheVariants.{NoRoom}
-use Rattle.site_memory.specs.Devices.{calls_in}
-use Rattle.site_memory.specs.Sites.{told_of}
 use Rattle.site_memory.specs.declared.machine.MemSite.{MemSite}
 use Rattle.site_model.specs.Told.{Made}
-use Rattle.determined_nodes.specs.SameNodes.{IsSameBehind, IsSameMachine, IsSameNode}
+use Rattle.determined_nodes.specs.AlikeCalls.{CanGo, EndAlike}
+use Rattle.determined_nodes.specs.SameNodes.{IsSameMachine, IsSameNode}
 
--- A node that hasn't halted, whose journal is open, on a machine that has room for its records and was told which of its calls is to fail, by its
--- number among all, or none.
-pub record CanGo (fails : ℕ) (n : Node) (old : MemSite) : Type 0 where
-  pub runs : n.halted ≡ false
-  pub limit : n.journal.limit ≡ 4294967295
-  pub records : List Record
-  pub open_is : IsOpen Two records n.journal (told_of old)
-  pub room : HasRoom old
-  pub told : (told_of old).counts.arming ≡ Some (record { since = length (calls_in old.device); fails = fails })
-
--- Its turn of a connection that brings these bytes, which made these calls: there was memory, for a step, for its end, and for the interim line where
+-- A turn of a connection that brings these bytes, which made these calls: there was memory, for a step, for its end, and for the interim line where
 -- the client waits for it.
 pub record HasTurned (bytes : List ℕ) (fails : ℕ) (result : Turned) (n m : Node) (old new : MemSite) (made : List Made) : Type 0 where
   pub goes : CanGo fails n old
@@ -36,12 +22,6 @@ pub record HasTurned (bytes : List ℕ) (fails : ℕ) (result : Turned) (n m : N
   pub memory : result ≡ NoRoom → ⊥
   pub remembers : m.shrunk ≡ NoMemory → ⊥
   pub tried : Waits bytes true → IsTriedLine 1 (take 1 made)
-
--- the same calls, and nodes and machines that are alike behind them
-pub record EndAlike (n m : Node) (s t : MemSite) (made also : List Made) : Type 0 where
-  pub calls : made ≡ also
-  pub node : IsSameBehind (seen n) (seen m)
-  pub machine : IsSameMachine s t
 
 -- Two such turns, of nodes that are alike, on machines that are alike at one time, at which the same call is to fail, are answered alike and do the same.
 abbrev pub TurnsAreDetermined : Type 0
