@@ -34,7 +34,7 @@ use Rattle.mirrored_nets.proofs.LeavingCalls.{leaving_outs}
 use Rattle.mirrored_nets.proofs.RequestsRead.{is_step, step_done}
 use Rattle.mirrored_nets.proofs.ToldMachines.{armed_row}
 use Rattle.determined_nodes.specs.RequestsAreDetermined.{HasAsked}
-use Rattle.determined_nodes.proofs.KeptOpenings.{opening_kept}
+use Rattle.mirrored_nets.proofs.LeftFiles.{opening_kept}
 use Rattle.determined_nodes.proofs.RecordCalls.{Fits}
 use Rattle.determined_nodes.proofs.RecordRoom.{record_fits}
 use Rattle.determined_nodes.proofs.RenewedJournals.{same_calls}

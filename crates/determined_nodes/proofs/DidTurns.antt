@@ -51,7 +51,7 @@ use Rattle.mirrored_nets.proofs.StruckSteps.{steps_come}
 use Rattle.mirrored_nets.proofs.ToldMachines.{armed_row}
 use Rattle.mirrored_nets.proofs.WholeTurns.{DidWhole, beside_so, did_whole}
 use Rattle.determined_nodes.specs.TurnsAreDetermined.{HasTurned}
-use Rattle.determined_nodes.proofs.KeptOpenings.{opening_kept}
+use Rattle.mirrored_nets.proofs.LeftFiles.{opening_kept}
 use Rattle.determined_nodes.proofs.RecordCalls.{Fits, fate_disk, fate_few}
 use Rattle.determined_nodes.proofs.RecordRoom.{record_fits}
 use Rattle.determined_nodes.proofs.RenewedJournals.{EndsSo, RoseBetween, ends_so, same_calls}

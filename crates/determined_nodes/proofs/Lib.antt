@@ -5,7 +5,6 @@ mod TriedOuts
 mod TwoRewritings
 mod TwoRuns
 mod OneStep
-mod KeptOpenings
 mod RenewedJournals
 mod StepsBehind
 mod TwoTurns
@@ -15,3 +14,5 @@ mod TwoHalts
 mod RecordRoom
 mod DidRequests
 mod RequestsAreDetermined
+mod ReadJournals
+mod DidStarts

@@ -21,7 +21,7 @@ use Rattle.site_model.specs.Counts.{Rose}
 use Rattle.site_model.specs.Told.{Call, Made, Told, done}
 use Rattle.mirrored_nets.specs.Fates.{AllDone, refusals}
 use Rattle.mirrored_nets.proofs.AnewCalls.{each_done}
-use Rattle.determined_nodes.proofs.KeptOpenings.{opening_kept}
+use Rattle.mirrored_nets.proofs.LeftFiles.{opening_kept}
 use Rattle.mirrored_nets.proofs.CallRows.{AreOnDisk, all_refused_none, disk_calls}
 use Rattle.determined_nodes.proofs.TwoRewritings.{Ended, EndsAt, anew_row, is_broken}
 

@@ -61,7 +61,7 @@ pub data Ended (before fails : ℕ) (n m : State) (anew : List Made) : Type 0 wh
   idle : (IsDue n → ⊥) → m ≡ n → anew ≡ [] → Ended before fails n m anew
   wrote : (r : Compact) → Rewrote before fails r n m anew → Ended before fails n m anew
 
-iff_same : {P Q : Type 0} (a b : Bool) → (a ≡ true) ↔ P → (b ≡ true) ↔ Q → (P → Q) → (Q → P) → a ≡ b
+pub iff_same : {P Q : Type 0} (a b : Bool) → (a ≡ true) ↔ P → (b ≡ true) ↔ Q → (P → Q) → (Q → P) → a ≡ b
 iff_same true true h k to from = refl
 iff_same false false h k to from = refl
 iff_same true false h k to from = sym (k.1 (to (h.0 refl)))

@@ -3,3 +3,4 @@ pub mod SameNodes
 pub mod AlikeCalls
 pub mod TurnsAreDetermined
 pub mod RequestsAreDetermined
+pub mod StartsAreDetermined
