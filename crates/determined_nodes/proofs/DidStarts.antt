@@ -46,9 +46,9 @@ pub data Stage (f : Files) (row : List Call) : Type 0 where
   at_row : StartRow f row → Stage f row
 
 -- Behind so many calls.
-pub data StartedSo (since fails : ℕ) (f : Files) (made : List Made) : Result Node StartFault → Type 0 where
-  up : (n : Node) (row : List Call) → StartRow f row → made ≡ cut since fails row → refusals made ≡ 0 → StartedSo since fails f made (Ok n)
-  down : (row : List Call) → Stage f row → ((more : List Call) → made ≡ cut since fails (row ++ more)) → 1 ≤ refusals made → StartedSo since fails f made (Err faults.Disk)
+pub data StartedSo (since fails : ℕ) (f : Files) (made : List Made) (result : Result Node StartFault) : Type 0 where
+  up : (n : Node) → result ≡ Ok n → (row : List Call) → StartRow f row → made ≡ cut since fails row → refusals made ≡ 0 → StartedSo since fails f made result
+  down : result ≡ Err faults.Disk → (row : List Call) → Stage f row → ((more : List Call) → made ≡ cut since fails (row ++ more)) → 1 ≤ refusals made → StartedSo since fails f made result
 
 -- a start as it went
 pub record DidStart (since fails : ℕ) (result : Result Node StartFault) (old new : MemSite) (made : List Made) : Type 0 where
@@ -58,11 +58,18 @@ pub record DidStart (since fails : ℕ) (result : Result Node StartFault) (old n
   pub arming : (told_of new).counts.arming ≡ (told_of old).counts.arming
 
 -- the Start goes into the file that is live
-into_live : (f : Files) (bare : Bool) (version : Version) (rs : List Record) (j : Journal) (file : ℕ) → StartsFrom f → ReadOf f bare version rs j → IsLiveBehind version j file → file ≡ j.live
+pub into_live : (f : Files) (bare : Bool) (version : Version) (rs : List Record) (j : Journal) (file : ℕ) → StartsFrom f → ReadOf f bare version rs j → IsLiveBehind version j file → file ≡ j.live
 into_live f bare Two rs j file from was h = h
 into_live f bare One rs j file (inl (qs, stands, least)) was h = absurd (let e : One ≡ Two = version_one f One Two rs qs was.stand stands in cc)
 into_live f bare One rs j file (inr (first, second)) was h =
     let (live, none) = short_live f j.live was.bodies first second was.live in h (was.end ∙ ap (λ z. length (frames z)) none)
+
+-- and whether the other one's first gate is to be shut stays
+pub still_unshut : (f : Files) (bare : Bool) (version : Version) (rs : List Record) (j k : Journal) → StartsFrom f → ReadOf f bare version rs j → IsJournalBehind version j k → k.unshut ≡ j.unshut
+still_unshut f bare Two rs j k from was h = h.unshut
+still_unshut f bare One rs j k (inl (qs, stands, least)) was h = absurd (let e : One ≡ Two = version_one f One Two rs qs was.stand stands in cc)
+still_unshut f bare One rs j k (inr (first, second)) was h =
+    let (live, none) = short_live f j.live was.bodies first second was.live in (h.0 (was.end ∙ ap (λ z. length (frames z)) none)).unshut
 
 -- files without bodies, of a machine that can start, have nothing in them
 gates : (f : Files) → StartsFrom f → FilesOf f One [] → (bare : Bool) (version : Version) (rs : List Record) (j : Journal) → ReadOf f bare version rs j → bare ≡ true
@@ -102,7 +109,7 @@ module _ (hold : LinksHold) (fail : CallsFailAsTold) (want : StartsFailForWant) 
 
     went_up : DidStart since fails (Ok n) old new made
     went_up = record {
-      went = StartedSo.up n row (record {
+      went = StartedSo.up n refl row (record {
         bare = S.bare;
         version = S.version;
         records = S.rs;
@@ -142,12 +149,12 @@ module _ (hold : LinksHold) (fail : CallsFailAsTold) (want : StartsFailForWant) 
     off row b more = breaks_cut since fails row more made (subst (BreaksOff row) (sym down_made) b) some armed
 
     stage : FailsAt C.made (told_of old) ⊎ BeganTo (λ calls. BreaksOff calls C.made) (told_of old) → StartedSo since fails f made (Err faults.Disk)
-    stage (inl (sync b)) = StartedSo.down syncs (Stage.at_sync refl) (off syncs b) some
+    stage (inl (sync b)) = StartedSo.down refl syncs (Stage.at_sync refl) (off syncs b) some
     stage (inl (read e)) = absurd (let none = all_refused_none made (subst AllDone (sym (down_made ∙ e)) (each_done syncs)) in let one = some in omega (arith, none, one))
-    stage (inl (gate empty b)) = StartedSo.down (syncs ++ shuts) (Stage.at_gate refl (gates f H.from (empty f refl))) (off (syncs ++ shuts) b) some
+    stage (inl (gate empty b)) = StartedSo.down refl (syncs ++ shuts) (Stage.at_gate refl (gates f H.from (empty f refl))) (off (syncs ++ shuts) b) some
     stage (inr B) =
         let was = read_of B.bare B.version B.rs B.journal old B.was in
-        StartedSo.down (start_calls B.bare B.version B.rs B.journal B.file) (Stage.at_row (record {
+        StartedSo.down refl (start_calls B.bare B.version B.rs B.journal B.file) (Stage.at_row (record {
           bare = B.bare;
           version = B.version;
           records = B.rs;

@@ -16,3 +16,4 @@ mod DidRequests
 mod RequestsAreDetermined
 mod ReadJournals
 mod DidStarts
+mod StartsAreDetermined

@@ -6,7 +6,7 @@ ghost use Rattle.wire_posts.specs.Envelopes.{IsTextOf};
 ghost use Rattle.determined_nodes.specs.Outs.{LeaveOneWay};
 
 /// Outs leave by one row of calls.
-#[tactic(auto, using(crate::proofs::Leavings::leave_one_way, crate::proofs::TurnsAreDetermined::turns_are_determined, crate::proofs::RequestsAreDetermined::requests_are_determined, crate::proofs::DidStarts::did_start))]
+#[tactic(auto, using(crate::proofs::Leavings::leave_one_way, crate::proofs::TurnsAreDetermined::turns_are_determined, crate::proofs::RequestsAreDetermined::requests_are_determined, crate::proofs::StartsAreDetermined::starts_are_determined))]
 pub fn outs_leave_one_way()
     ensures { ((post : Post) → (x : List ℕ) → (y : List ℕ) → IsTextOf post x → IsTextOf post y → x ≡ y) → LeaveOneWay }
 {
