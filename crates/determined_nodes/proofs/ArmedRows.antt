@@ -5,7 +5,6 @@ use Rattle.std.proofs.lemmas.List.{append_assoc, length-append, length-map}
 use Rattle.site_memory.specs.ToldCalls.{AreArmed}
 use Rattle.site_model.specs.Told.{BreaksOff, Call, Made, done, failed}
 use Rattle.mirrored_nets.specs.Fates.{AllDone, refusals}
-
 use Rattle.mirrored_nets.proofs.AnewCalls.{each_done}
 use Rattle.mirrored_nets.proofs.CallRows.{all_refused_none}
 

@@ -1,5 +1,5 @@
 -- A request for which there was memory, and how it went.
-use Rattle.std.specs.Prelude.{ℕ, List, [], ◌∷◌, ◌++◌, ◌+◌, ◌-◌, ◌^◌, ◌≡◌, ◌≤◌, ◌<◌, ◌⊎◌, Bool, true, false, Option, Some, None, drop, length}
+use Rattle.std.specs.Prelude.{ℕ, List, [], ◌++◌, ◌+◌, ◌-◌, ◌^◌, ◌≡◌, ◌≤◌, ◌<◌, Bool, true, false, Option, Some, None, drop, length}
 use Rattle.std.proofs.Common.{ap, append-nil, arith, inl, inr, refl, subst, sym, true≢false, ◌∙◌}
 use Rattle.std.proofs.Math.Seq.{drop-append_seam}
 use Rattle.at_base.specs.Numbers.{Numbers}
@@ -29,7 +29,7 @@ use Rattle.site_model.specs.Counts.{Rose}
 use Rattle.site_model.specs.Told.{Made}
 use Rattle.mirrored_nets.specs.Fates.{failures, refusals}
 use Rattle.mirrored_nets.proofs.AskedMachines.{request_kept}
-use Rattle.mirrored_nets.proofs.CallRows.{failures_join, none_refused, refusals_join}
+use Rattle.mirrored_nets.proofs.CallRows.{none_refused, refusals_join}
 use Rattle.mirrored_nets.proofs.LeavingCalls.{leaving_outs}
 use Rattle.mirrored_nets.proofs.RequestsRead.{is_step, step_done}
 use Rattle.mirrored_nets.proofs.ToldMachines.{armed_row}

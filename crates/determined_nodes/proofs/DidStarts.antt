@@ -1,18 +1,16 @@
 -- A start for which there was memory: it made all its calls, or they end in the one that failed.
-use Rattle.std.specs.Prelude.{ℕ, List, [], ◌∷◌, ◌++◌, ◌+◌, ◌^◌, ◌≡◌, ◌≤◌, ◌<◌, ◌⊎◌, Bool, true, false, Err, Ok, Result, drop, length, map}
-use Rattle.std.proofs.Common.{ap, append-nil, arith, inl, inr, refl, subst, sym, ◌∙◌}
+use Rattle.std.specs.Prelude.{ℕ, List, [], ◌++◌, ◌≡◌, ◌≤◌, ◌<◌, ◌⊎◌, Bool, true, Err, Ok, Result, drop, length, map}
+use Rattle.std.proofs.Common.{ap, arith, inl, inr, refl, subst, sym, ◌∙◌}
 use Rattle.std.proofs.Math.Seq.{drop-append_seam}
-use Rattle.std.proofs.lemmas.List.{append_assoc}
 use Rattle.at_base.specs.declared.record.Record.{Record}
 use Rattle.at_model.specs.Recovery.{last_incarnation}
-use Rattle.journal_at.specs.Format.{FileOf, frames}
-use Rattle.journal_at.specs.Loads.{AreEmpty, FailsAt, IsBare, shuts, syncs}
+use Rattle.journal_at.specs.Format.{frames}
+use Rattle.journal_at.specs.Loads.{FailsAt, shuts, syncs}
 use Rattle.journal_at.specs.Loads.FailsAt.{sync, read, gate}
 use Rattle.journal_at.specs.Pairs.{FilesOf}
 use Rattle.journal_at.specs.declared.journal.Journal.{Journal}
 use Rattle.journal_at.specs.declared.version.Version.{Version}
 use Rattle.journal_at.specs.declared.version.Version.TheVariants.{One, Two}
-use Rattle.memory_net.specs.Calls.{Begins}
 use Rattle.mirrored_nets.specs.DueStarts.{CanBegin, StandSo, StartsFailForWant}
 use Rattle.mirrored_nets.specs.Fates.{AllDone, refusals}
 use Rattle.mirrored_nets.proofs.AnewCalls.{each_done}
@@ -22,7 +20,7 @@ use Rattle.mirrored_nets.proofs.OneStanding.{version_one}
 use Rattle.mirrored_nets.proofs.StoodStarts.{read_in}
 use Rattle.mirrored_nets.proofs.ToldMachines.{armed_row}
 use Rattle.node_at.specs.StartedNodes.{IsStarted}
-use Rattle.node_at.specs.Starts.{BeganTo, CannotStart, IsJournalBehind, IsLiveBehind, IsRead, StandFor, beginning_calls, start_calls}
+use Rattle.node_at.specs.Starts.{BeganTo, CannotStart, IsJournalBehind, IsLiveBehind, start_calls}
 use Rattle.node_at.specs.State.{seen}
 use Rattle.node_at.specs.declared.fault.StartFault.{StartFault}
 use Rattle.node_at.specs.declared.fault.StartFault.TheVariants as faults

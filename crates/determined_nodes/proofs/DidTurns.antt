@@ -1,5 +1,5 @@
 -- A turn for which there was memory: what it heard, and how it went.
-use Rattle.std.specs.Prelude.{ℕ, List, [], ◌∷◌, ◌++◌, ◌+◌, ◌-◌, ◌^◌, ◌≡◌, ◌≤◌, ◌<◌, ◌⊎◌, IfSome, Bool, true, false, Option, Some, None, drop, if◌then◌else◌, length, suc, take, zero}
+use Rattle.std.specs.Prelude.{ℕ, List, [], ◌∷◌, ◌++◌, ◌+◌, ◌-◌, ◌^◌, ◌≡◌, ◌≤◌, ◌<◌, ◌⊎◌, IfSome, Bool, true, false, Option, Some, drop, if◌then◌else◌, length, suc, take, zero}
 use Rattle.std.proofs.Common.{ap, append-nil, arith, inl, inr, refl, subst, sym, true≢false, ◌∙◌}
 use Rattle.std.proofs.Math.Seq.{drop-append_seam}
 use Rattle.std.proofs.lemmas.List.{append_assoc}
@@ -11,10 +11,9 @@ use Rattle.journal_at.specs.StandingBodies.{Keeps, Makes, Spare}
 use Rattle.journal_at.specs.declared.journal.Append.TheVariants as appends
 use Rattle.journal_at.specs.declared.journal.Journal.{Journal}
 use Rattle.journal_at.specs.declared.version.Version.TheVariants.{Two}
-use Rattle.node_at.specs.Doings.{AreDoings, AreFates, Doing, IsFateAt, Ran, calls_of, deeds_of, lost_of, refused_of}
+use Rattle.node_at.specs.Doings.{AreDoings, AreFates, Doing, Ran, calls_of, deeds_of, lost_of}
 use Rattle.node_at.specs.Endings.{Ends, Renews, Rested, TakesTurn}
-use Rattle.node_at.specs.Meanings.{Hears, Meaning, Means, next_input}
-use Rattle.node_at.specs.Meanings.Meaning.{Lost}
+use Rattle.node_at.specs.Meanings.{Hears, Meaning, next_input}
 use Rattle.node_at.specs.Moments.{landed_of}
 use Rattle.node_at.specs.Replies.{StepsReply}
 use Rattle.node_at.specs.State.{State, seen}
@@ -33,7 +32,6 @@ use Rattle.site_memory.specs.Sites.{link_of, told_of}
 use Rattle.site_memory.specs.Tells.{reads}
 use Rattle.site_memory.specs.ToldCalls.{AreArmed, CallsFailAsTold, LinksHold}
 use Rattle.site_memory.specs.declared.machine.MemSite.{MemSite}
-use Rattle.site_model.specs.Counts.{Rose}
 use Rattle.site_model.specs.Site.{Counts as Numbers}
 use Rattle.site_model.specs.Told.{Files, Made}
 use Rattle.mirrored_nets.specs.Answered.{AnswersWith}
@@ -46,17 +44,17 @@ use Rattle.mirrored_nets.proofs.InputsHeard.{means_so, works_heard}
 use Rattle.mirrored_nets.proofs.InterimLines.{IsNoLine, disk_no_line, halts_no_line, line_is, whole_no_line}
 use Rattle.mirrored_nets.proofs.LeavingCalls.{AskedSteps, asked_steps}
 use Rattle.mirrored_nets.proofs.RewritingCalls.{renewed}
-use Rattle.mirrored_nets.proofs.StruckRows.{few_refused, parts_armed}
+use Rattle.mirrored_nets.proofs.StruckRows.{few_refused}
 use Rattle.mirrored_nets.proofs.StruckSteps.{steps_come}
 use Rattle.mirrored_nets.proofs.ToldMachines.{armed_row}
 use Rattle.mirrored_nets.proofs.WholeTurns.{DidWhole, beside_so, did_whole}
 use Rattle.determined_nodes.specs.TurnsAreDetermined.{HasTurned}
 use Rattle.mirrored_nets.proofs.LeftFiles.{opening_kept}
-use Rattle.determined_nodes.proofs.RecordCalls.{Fits, fate_disk, fate_few}
+use Rattle.determined_nodes.proofs.RecordCalls.{Fits, fate_few}
 use Rattle.determined_nodes.proofs.RecordRoom.{record_fits}
 use Rattle.determined_nodes.proofs.RenewedJournals.{EndsSo, RoseBetween, ends_so, same_calls}
 use Rattle.determined_nodes.proofs.StepsBehind.{LeftBy}
-use Rattle.determined_nodes.proofs.TriedOuts.{NoRecord, due_unrecorded, rows_quiet, tried_sendings}
+use Rattle.determined_nodes.proofs.TriedOuts.{due_unrecorded, rows_quiet, tried_sendings}
 use Rattle.determined_nodes.proofs.TwoRuns.{DidSteps}
 use Rattle.determined_nodes.proofs.TwoTurns.{Hearing, LineIs, Went, turned_of}
 

@@ -6,7 +6,7 @@ use Rattle.at_base.specs.declared.outs.Out.{Out}
 use Rattle.at_base.specs.declared.outs.Out.TheVariants as outs
 use Rattle.at_base.specs.declared.outs.Post.{Post}
 use Rattle.http_post.specs.OutBytes.{answer_of, has_reason, post_of}
-use Rattle.node_at.specs.Texts.{AreLeaving, IsAnswer, IsAnswerOf, IsCallOf, IsPostOf, IsPosted, Leaving, goes_to}
+use Rattle.node_at.specs.Texts.{AreLeaving, IsAnswerOf, IsCallOf, IsPostOf, Leaving, goes_to}
 use Rattle.node_at.specs.Texts.AreLeaving.{leaves, none, stays}
 use Rattle.site_model.specs.Told.{Call}
 use Rattle.wire_posts.specs.Envelopes.{AreBoth, IsTextOf, action_in}

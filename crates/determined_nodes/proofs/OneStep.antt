@@ -1,17 +1,13 @@
 -- What a step is where its record's fate is known: the outs that leave, the book behind it, and what came.
-use Rattle.std.specs.Prelude.{ℕ, List, [], ◌∷◌, ◌++◌, ◌≡◌, ◌⊎◌, Bool, true, false, Option, Some, None}
+use Rattle.std.specs.Prelude.{ℕ, List, [], ◌∷◌, ◌≡◌, Bool, true, false, None}
 use Rattle.std.proofs.Common.{ap, append-nil, inl, inr, refl, subst, sym, ◌∙◌}
 use Rattle.at_base.specs.declared.event.Event.{Event}
-use Rattle.at_base.specs.declared.outs.Effect.{Effect}
-use Rattle.at_base.specs.declared.outs.Out.{Out}
-use Rattle.at_base.specs.declared.record.Record.{Record}
 use Rattle.at_model.specs.Book.{Book}
 use Rattle.at_model.specs.Step.{Outcome, Plan, branch, plan, step}
 use Rattle.node_at.specs.Meanings.{Meaning}
 use Rattle.node_at.specs.Meanings.Meaning.{Lost, Refused, Steps, Unread}
 use Rattle.node_at.specs.Steps.{status_in}
-use Rattle.node_at.specs.Texts.{Leaving}
-use Rattle.node_at.specs.TurnText.{AreDue, DueSteps, IsFirst, IsOutcome, IsStep, TurnStep, refusing}
+use Rattle.node_at.specs.TurnText.{AreDue, DueSteps, IsFirst, IsOutcome, IsStep, TurnStep}
 use Rattle.determined_nodes.specs.Outs.{LeaveOneWay}
 use Rattle.determined_nodes.proofs.RecordCalls.{AsLanded}
 

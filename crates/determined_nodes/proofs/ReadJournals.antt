@@ -1,10 +1,9 @@
 -- What is read of a pair of files is determined: the records, the file that is live, and whether the other one's first gate is to be shut.
-use Rattle.std.specs.Prelude.{ℕ, List, [], ◌∷◌, ◌++◌, ◌+◌, ◌-◌, ◌≡◌, ◌≢◌, ◌≤◌, ◌<◌, ◌⊎◌, ◌↔◌, Bool, true, false, cond, length, nat_eq, suc, zero}
+use Rattle.std.specs.Prelude.{ℕ, List, [], ◌∷◌, ◌++◌, ◌+◌, ◌-◌, ◌≡◌, ◌≤◌, ◌<◌, ◌↔◌, Bool, true, false, cond, length, nat_eq, suc, zero}
 use Rattle.std.proofs.Common.{ap, arith, inl, inr, refl, subst, sym, ◌∙◌}
 use Rattle.at_base.specs.declared.record.Record.{Record}
-use Rattle.decision_log.specs.Folds.{AreRecords}
 use Rattle.journal_at.specs.Compactions.{prepare_calls, text_of}
-use Rattle.journal_at.specs.Format.{FileOf, frames, head_of, records_of}
+use Rattle.journal_at.specs.Format.{frames, head_of}
 use Rattle.journal_at.specs.Loads.{IsBare, shuts_if, syncs}
 use Rattle.journal_at.specs.Pairs.{HasLive}
 use Rattle.journal_at.specs.Scans.{IsGate}
@@ -20,7 +19,7 @@ use Rattle.record_bytes.specs.Bytes.{bytes_of}
 use Rattle.record_bytes.specs.Versions.{AreApart}
 use Rattle.site_memory.specs.Sites.{told_of}
 use Rattle.site_memory.specs.declared.machine.MemSite.{MemSite}
-use Rattle.site_model.specs.Told.{Call, Files, file_of, other_than}
+use Rattle.site_model.specs.Told.{Call, Files, other_than}
 use Rattle.mirrored_nets.proofs.OneStanding.{file_one, found_one, version_one}
 use Rattle.mirrored_nets.proofs.StoodStarts.{read_in}
 use Rattle.determined_nodes.proofs.TwoRewritings.{iff_same}

@@ -9,7 +9,7 @@ use Rattle.node_at.specs.Doings.{IsFateAt}
 use Rattle.node_at.specs.Starts.{append_calls}
 use Rattle.record_bytes.specs.Bytes.{bytes_of}
 use Rattle.site_memory.specs.ToldCalls.{AreArmed}
-use Rattle.site_model.specs.Told.{BreaksOff, Made, done, failed}
+use Rattle.site_model.specs.Told.{Made, done, failed}
 use Rattle.mirrored_nets.specs.Fates.{AllDone, failures, refusals}
 use Rattle.determined_nodes.proofs.ArmedRows.{breaks_cut, breaks_within, cut, later_cut, whole_cut}
 use Rattle.mirrored_nets.proofs.AnewCalls.{each_done}

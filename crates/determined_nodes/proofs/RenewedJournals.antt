@@ -1,9 +1,9 @@
 -- The end of a turn at which there was memory: the journal was written anew, or that was tried, or it isn't due.
-use Rattle.std.specs.Prelude.{ℕ, List, [], ◌∷◌, ◌++◌, ◌+◌, ◌-◌, ◌≡◌, ◌≤◌, ◌⊎◌, Bool, true, false, Some, length, map, option_map}
+use Rattle.std.specs.Prelude.{ℕ, List, [], ◌∷◌, ◌++◌, ◌+◌, ◌-◌, ◌≡◌, ◌≤◌, ◌⊎◌, Bool, true, false, Some, length, map}
 use Rattle.std.proofs.Common.{ap, append-nil, arith, inl, inr, refl, subst, sym, true≢false, ◌∙◌}
 use Rattle.std.proofs.lemmas.List.{map-append}
 use Rattle.decision_log.specs.ShrunkJournals.{shrunk, texts_of}
-use Rattle.journal_at.specs.Compactions.{HasGround, Leaves, Moves, Steps, prepare_calls, text_of}
+use Rattle.journal_at.specs.Compactions.{HasGround, Leaves, Steps, prepare_calls, text_of}
 use Rattle.journal_at.specs.Format.{frames, mark_body}
 use Rattle.journal_at.specs.StandingBodies.{Keeps, raise}
 use Rattle.journal_at.specs.declared.journal.Compact.{Compact}
@@ -18,7 +18,7 @@ use Rattle.site_memory.specs.Sites.{told_of}
 use Rattle.site_memory.specs.ToldCalls.{AreArmed}
 use Rattle.site_memory.specs.declared.machine.MemSite.{MemSite}
 use Rattle.site_model.specs.Counts.{Rose}
-use Rattle.site_model.specs.Told.{Call, Made, Told, done}
+use Rattle.site_model.specs.Told.{Made, done}
 use Rattle.mirrored_nets.specs.Fates.{AllDone, refusals}
 use Rattle.mirrored_nets.proofs.AnewCalls.{each_done}
 use Rattle.mirrored_nets.proofs.LeftFiles.{opening_kept}

@@ -1,11 +1,10 @@
 -- Two requests of nodes that are alike do the same.
-use Rattle.std.specs.Prelude.{ℕ, List, [], ◌++◌, ◌≡◌, Bool, false, Option, Some, None, length}
+use Rattle.std.specs.Prelude.{ℕ, List, [], ◌++◌, ◌≡◌, false, Option, Some, None, length}
 use Rattle.std.proofs.Common.{ap, refl, subst, sym, ◌∙◌}
 use Rattle.at_base.specs.Numbers.{Numbers}
 use Rattle.at_base.specs.declared.event.Event.TheVariants as events
 use Rattle.at_base.specs.declared.event.Local.{Local}
 use Rattle.at_model.specs.Activities.{Refusal as Reason}
-use Rattle.at_model.specs.Book.{Book}
 use Rattle.at_model.specs.Step.{refuses}
 use Rattle.completion_at.specs.Names.{refusal_of}
 use Rattle.completion_at.specs.declared.requests.Refusal.{Refusal}
@@ -130,8 +129,7 @@ requests_are_determined one hold fail law request fails r s n m p q old new here
     let Z : DidAsk (length (calls_in old.device)) fails request s (seen p) (seen q) here there also = subst (λ l. DidAsk (length l) fails request s (seen p) (seen q) here there also) (sym machine.calls) Y in
     let S : SameAsks r s (seen m) (seen q) made also =
     same_asks (leave_one_way one) (λ b e now t is. (step_of b e now t is).is_plain) (length (calls_in old.device)) fails X.now Z.now request r s (seen n) (seen m) (seen p) (seen q) made also same H.goes.runs
-    (X.time ∙ times ∙ sym Z.time) X.went Z.went in
-    (
+    (X.time ∙ times ∙ sym Z.time) X.went Z.went in (
       S.answer,
       record {
         calls = S.calls;

@@ -1,8 +1,7 @@
 -- Two starts on machines that are alike do the same.
-use Rattle.std.specs.Prelude.{ℕ, List, [], ◌++◌, ◌+◌, ◌-◌, ◌≡◌, ◌≤◌, Bool, true, false, Err, Ok, Result, length}
+use Rattle.std.specs.Prelude.{ℕ, List, [], ◌++◌, ◌≡◌, ◌≤◌, Err, Ok, Result, length}
 use Rattle.std.proofs.Common.{ap, append-nil, arith, refl, subst, sym, ◌∙◌}
 use Rattle.std.proofs.lemmas.List.{append_assoc}
-use Rattle.at_base.specs.declared.record.Record.{Record}
 use Rattle.at_model.specs.Recovery.{recover}
 use Rattle.decision_log.specs.KeptRecords.{kept_of}
 use Rattle.journal_at.specs.Format.{frames, head_of}
@@ -10,7 +9,6 @@ use Rattle.journal_at.specs.Frames.{Framed}
 use Rattle.journal_at.specs.Loads.{shuts, shuts_if, syncs}
 use Rattle.journal_at.specs.StandingBodies.{Keeps}
 use Rattle.journal_at.specs.declared.journal.Journal.{Journal}
-use Rattle.journal_at.specs.declared.version.Version.{Version}
 use Rattle.journal_at.specs.declared.version.Version.TheVariants.{Two}
 use Rattle.memory_net.specs.Calls.{Begins}
 use Rattle.mirrored_nets.specs.DueStarts.{StartsFailForWant}
@@ -19,7 +17,7 @@ use Rattle.mirrored_nets.proofs.OneStanding.{framed_one}
 use Rattle.mirrored_nets.proofs.StoodStarts.{read_in}
 use Rattle.node_at.specs.StartedNodes.{IsStarted}
 use Rattle.node_at.specs.Starts.{beginning_calls, started}
-use Rattle.node_at.specs.State.{State, seen}
+use Rattle.node_at.specs.State.{seen}
 use Rattle.node_at.specs.declared.fault.StartFault.{StartFault}
 use Rattle.node_at.specs.declared.fault.StartFault.TheVariants as faults
 use Rattle.node_at.specs.declared.node.Node.{Node}

@@ -1,10 +1,9 @@
 -- The nodes behind two turns of nodes that are alike, whose steps were the same.
-use Rattle.std.specs.Prelude.{ℕ, List, [], ◌∷◌, ◌++◌, ◌+◌, ◌≡◌, ◌⊎◌, Bool, true, false, Option, Some, None, length}
+use Rattle.std.specs.Prelude.{ℕ, List, [], ◌∷◌, ◌++◌, ◌+◌, ◌≡◌, Bool, true, false, Option, None, length}
 use Rattle.std.specs.List.{AllByRecursion}
-use Rattle.std.proofs.Common.{ap, append-nil, arith, inl, inr, refl, subst, sym, ◌∙◌}
+use Rattle.std.proofs.Common.{ap, append-nil, arith, inl, inr, refl, sym, ◌∙◌}
 use Rattle.std.proofs.lemmas.List.{length-append}
 use Rattle.at_base.specs.declared.record.Record.{Record}
-use Rattle.at_model.specs.Book.{Book}
 use Rattle.decision_log.specs.KeptRecords.{Known}
 use Rattle.journal_at.specs.Format.{behind, frames}
 use Rattle.node_at.specs.Doings.{AreDoings, Doing, book_behind, came_of, deeds_of, kept_behind}
@@ -14,7 +13,7 @@ use Rattle.node_at.specs.State.{State}
 use Rattle.node_at.specs.Steps.{bodies_by, if_landed, kept_by, landed_by}
 use Rattle.node_at.specs.TurnText.{TurnStep}
 use Rattle.site_model.specs.Told.{Made}
-use Rattle.determined_nodes.specs.SameNodes.{IsSameBehind, IsSameJournal, IsSameNode}
+use Rattle.determined_nodes.specs.SameNodes.{IsSameBehind, IsSameJournal}
 use Rattle.determined_nodes.proofs.RecordCalls.{AsLanded}
 use Rattle.determined_nodes.proofs.TriedOuts.{NoRecord}
 use Rattle.determined_nodes.proofs.TwoRuns.{DidSteps, StepsSame, free}

@@ -1,6 +1,6 @@
 -- Two turns of nodes that are alike do the same.
-use Rattle.std.specs.Prelude.{ℕ, List, ◌++◌, ◌≡◌, length}
-use Rattle.std.proofs.Common.{ap, subst, sym, ◌∙◌}
+use Rattle.std.specs.Prelude.{◌++◌, length}
+use Rattle.std.proofs.Common.{subst, sym, ◌∙◌}
 use Rattle.carried_meanings.specs.CarriedMeanings.{MeanOneThing}
 use Rattle.http_post.specs.Laws.{WaitOrNot}
 use Rattle.node_at.specs.Replies.{StepsReply}
@@ -22,8 +22,7 @@ turns_are_determined one mean wait hold fail reply law bytes fails r s n m p q o
     let Z : DidTurn (length (calls_in old.device)) fails bytes s (seen p) (seen q) here there also = subst (λ l. DidTurn (length l) fails bytes s (seen p) (seen q) here there also) (sym machine.calls) Y in
     let S : SameTurns r s (seen m) (seen q) made also =
     same_turns (leave_one_way one) (λ b e now t is. (step_of b e now t is).is_plain) (length (calls_in old.device)) fails bytes (mean All bytes) (wait bytes) r s (seen n) (seen m) (seen p) (seen q) made also same H.goes.runs X.hearing
-    Z.hearing (X.time ∙ times ∙ sym Z.time) X.went Z.went in
-    (
+    Z.hearing (X.time ∙ times ∙ sym Z.time) X.went Z.went in (
       S.answer,
       record {
         calls = S.calls;

@@ -1,5 +1,5 @@
 -- Two calls of nodes that are alike, of which one halted as the record of its first step was appended: so did the other, at the same call.
-use Rattle.std.specs.Prelude.{ℕ, List, [], ◌∷◌, ◌++◌, ◌+◌, ◌≡◌, ◌≤◌, Bool, true, Some, length}
+use Rattle.std.specs.Prelude.{ℕ, List, ◌++◌, ◌+◌, ◌≡◌, ◌≤◌, Bool, true, Some, length}
 use Rattle.std.proofs.Common.{ap, subst, sym, true≢false, ◌∙◌}
 use Rattle.at_base.specs.declared.record.Record.{Record}
 use Rattle.at_model.specs.Book.{Book}

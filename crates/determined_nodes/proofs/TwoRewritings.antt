@@ -1,8 +1,7 @@
 -- Two ends of turns at which the journal of nodes that are alike is written anew, or isn't: the calls for it are the same, and the nodes behind them are alike.
-use Rattle.std.specs.Prelude.{ℕ, List, [], ◌∷◌, ◌++◌, ◌+◌, ◌*◌, ◌-◌, ◌&&◌, ◌≡◌, ◌≤◌, ◌<◌, ◌⊎◌, ◌↔◌, Bool, true, false, length, map}
-use Rattle.std.proofs.Common.{ap, arith, inl, inr, refl, subst, sym, true≢false, ◌∙◌}
+use Rattle.std.specs.Prelude.{ℕ, List, [], ◌∷◌, ◌++◌, ◌+◌, ◌-◌, ◌&&◌, ◌≡◌, ◌≤◌, ◌<◌, ◌⊎◌, ◌↔◌, Bool, true, false, length, map}
+use Rattle.std.proofs.Common.{ap, arith, inl, inr, refl, subst, sym, ◌∙◌}
 use Rattle.std.proofs.lemmas.List.{length-append, length-map, map-append}
-use Rattle.decision_log.specs.KeptRecords.{Known}
 use Rattle.decision_log.specs.ShrunkJournals.{shrunk, texts_of}
 use Rattle.journal_at.specs.Compactions.{IsFile, IsUnshut, Steps, fails_first, prepare_calls, text_of}
 use Rattle.journal_at.specs.Format.{frames, mark_body}
@@ -14,8 +13,8 @@ use Rattle.node_at.specs.ShrunkJournals.{IsDue, halted_by}
 use Rattle.node_at.specs.Sizes.{size_of}
 use Rattle.node_at.specs.State.{State}
 use Rattle.site_memory.specs.ToldCalls.{AreArmed}
-use Rattle.site_model.specs.Told.{BreaksOff, Call, Made, done, failed}
-use Rattle.determined_nodes.specs.SameNodes.{IsSameBehind, IsSameJournal, IsSameNode}
+use Rattle.site_model.specs.Told.{Call, Made, done, failed}
+use Rattle.determined_nodes.specs.SameNodes.{IsSameBehind, IsSameJournal}
 use Rattle.mirrored_nets.specs.Fates.{AllDone, refusals}
 use Rattle.determined_nodes.proofs.ArmedRows.{breaks_cut, breaks_within, cut, later_cut, whole_cut}
 use Rattle.mirrored_nets.proofs.AnewCalls.{each_done}

@@ -1,20 +1,18 @@
 -- Two turns of nodes that are alike, whose steps went to their end: the steps and the calls for them are the same.
-use Rattle.std.specs.Prelude.{ℕ, List, [], ◌∷◌, ◌++◌, ◌+◌, ◌≡◌, ◌≤◌, ◌⊎◌, Bool, true, false, Option, Some, None, length, map}
+use Rattle.std.specs.Prelude.{ℕ, List, [], ◌∷◌, ◌++◌, ◌+◌, ◌≡◌, ◌≤◌, Bool, true, false, length, map}
 use Rattle.std.specs.List.{AllByRecursion}
-use Rattle.std.proofs.Common.{ap, arith, inl, inr, refl, subst, sym, ◌∙◌}
+use Rattle.std.proofs.Common.{ap, arith, subst, sym, ◌∙◌}
 use Rattle.std.proofs.lemmas.List.{append_assoc, map-append}
-use Rattle.at_base.specs.declared.record.Record.{Record}
 use Rattle.at_model.specs.Book.{Book}
-use Rattle.at_model.specs.Step.{Outcome}
 use Rattle.journal_at.specs.Format.{frames}
 use Rattle.node_at.specs.Doings.{AreDoings, AreFates, Doing, IsFateAt, calls_of, lost_of}
 use Rattle.node_at.specs.Meanings.{Meaning}
 use Rattle.node_at.specs.State.{State}
 use Rattle.node_at.specs.Steps.{if_landed, kept_by}
-use Rattle.node_at.specs.Texts.{Leaving, call_by}
-use Rattle.node_at.specs.TurnText.{AreDue, DueSteps, IsFirst, TurnStep}
+use Rattle.node_at.specs.Texts.{call_by}
+use Rattle.node_at.specs.TurnText.{DueSteps, IsFirst, TurnStep}
 use Rattle.site_memory.specs.ToldCalls.{AreArmed}
-use Rattle.site_model.specs.Told.{Call, Made}
+use Rattle.site_model.specs.Told.{Made}
 use Rattle.determined_nodes.specs.Outs.{LeaveOneWay}
 use Rattle.determined_nodes.specs.SameNodes.{IsSameJournal}
 use Rattle.mirrored_nets.specs.Fates.{failures, refusals}

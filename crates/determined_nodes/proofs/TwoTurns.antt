@@ -1,32 +1,25 @@
 -- Two turns of nodes that are alike.
-use Rattle.std.specs.Prelude.{ℕ, List, [], ◌∷◌, ◌++◌, ◌+◌, ◌≡◌, ◌≤◌, ◌⊎◌, Bool, true, false, Option, Some, None, if◌then◌else◌, length, map}
-use Rattle.std.proofs.Common.{ap, inl, inr, refl, subst, sym, true≢false, ◌∙◌}
-use Rattle.at_base.specs.declared.record.Record.{Record}
+use Rattle.std.specs.Prelude.{ℕ, List, [], ◌∷◌, ◌++◌, ◌+◌, ◌≡◌, ◌⊎◌, Bool, true, false, if◌then◌else◌, length, map}
+use Rattle.std.proofs.Common.{ap, inl, inr, refl, subst, sym, ◌∙◌}
 use Rattle.http_post.specs.Conversations.{Waits, said, unsaid}
-use Rattle.journal_at.specs.StandingBodies.{Makes}
-use Rattle.journal_at.specs.declared.journal.Append.TheVariants as appends
-use Rattle.node_at.specs.Doings.{IsFateAt, calls_of}
+use Rattle.node_at.specs.Doings.{calls_of}
 use Rattle.node_at.specs.Meanings.{Meaning, Means}
 use Rattle.node_at.specs.State.{State}
-use Rattle.node_at.specs.TurnText.{IsFirst, TurnStep}
 use Rattle.node_at.specs.Turns.{calm, is_tick}
 use Rattle.node_at.specs.declared.role.Role.TheVariants.{All}
 use Rattle.node_at.specs.declared.turn.Turned.{Turned}
 use Rattle.node_at.specs.declared.turn.Turned.TheVariants as turneds
-use Rattle.record_bytes.specs.Bytes.{bytes_of}
 use Rattle.site_memory.specs.ToldCalls.{AreArmed}
 use Rattle.site_model.specs.Told.{Made}
 use Rattle.determined_nodes.specs.Outs.{LeaveOneWay}
 use Rattle.determined_nodes.specs.SameNodes.{IsSameBehind, IsSameJournal, IsSameNode}
-use Rattle.mirrored_nets.specs.Fates.{refusals}
 use Rattle.determined_nodes.proofs.ArmedRows.{called, tried_one}
-use Rattle.determined_nodes.proofs.OneStep.{PlansArePlain, first_entry}
-use Rattle.determined_nodes.proofs.RecordCalls.{Fits, halts_only, unsure_is}
+use Rattle.determined_nodes.proofs.OneStep.{PlansArePlain}
 use Rattle.determined_nodes.proofs.StepsBehind.{LeftBy, behind_same}
 use Rattle.mirrored_nets.proofs.StruckRows.{parts_armed}
 use Rattle.determined_nodes.proofs.TwoHalts.{HaltedAt, SameHalts, not_halted, same_halts, turned_back}
 use Rattle.determined_nodes.proofs.TwoRewritings.{Ended, ended_one}
-use Rattle.determined_nodes.proofs.TwoRuns.{DidSteps, StepsSame, entries, fate, first_armed, fits_here, steps_same_two}
+use Rattle.determined_nodes.proofs.TwoRuns.{DidSteps, StepsSame, entries, steps_same_two}
 
 -- the calls that try the interim line
 abbrev pub LineIs : Bool → List Made → Type 0
