@@ -1,6 +1,7 @@
 -- A start for which there was memory: it made all its calls, or they end in the one that failed.
-use Rattle.std.specs.Prelude.{ℕ, List, [], ◌++◌, ◌≡◌, ◌≤◌, ◌<◌, ◌⊎◌, Bool, true, Err, Ok, Result, drop, length, map}
+use Rattle.std.specs.Prelude.{ℕ, List, [], ◌∷◌, ◌++◌, ◌+◌, ◌≡◌, ◌≤◌, ◌<◌, ◌⊎◌, Bool, true, false, Err, Ok, Result, drop, if◌then◌else◌, length, map, nat_eq, not, suc}
 use Rattle.std.proofs.Common.{ap, arith, inl, inr, refl, subst, sym, ◌∙◌}
+use Rattle.std.proofs.lemmas.Bool.{ne_eqb}
 use Rattle.std.proofs.Math.Seq.{drop-append_seam}
 use Rattle.at_base.specs.declared.record.Record.{Record}
 use Rattle.at_model.specs.Recovery.{last_incarnation}
@@ -34,7 +35,7 @@ use Rattle.site_model.specs.Site.{Counts as Numbers}
 use Rattle.site_model.specs.Told.{BreaksOff, Call, Files, Made, done}
 use Rattle.determined_nodes.specs.StartsAreDetermined.{HasBegun, StartsFrom}
 use Rattle.determined_nodes.proofs.ArmedRows.{breaks_cut, cut, whole_cut}
-use Rattle.determined_nodes.proofs.ReadJournals.{ReadOf, StartRow, read_of, short_live}
+use Rattle.determined_nodes.proofs.ReadJournals.{ReadOf, StartRow, bodiless_live, read_of}
 use Rattle.determined_nodes.proofs.RenewedJournals.{same_calls}
 
 -- how far a start came that failed: a sync of both files, a first gate, or its whole row
@@ -56,24 +57,47 @@ pub record DidStart (since fails : ℕ) (result : Result Node StartFault) (old n
   pub arming : (told_of new).counts.arming ≡ (told_of old).counts.arming
 
 -- the Start goes into the file that is live
-pub into_live : (f : Files) (bare : Bool) (version : Version) (rs : List Record) (j : Journal) (file : ℕ) → StartsFrom f → ReadOf f bare version rs j → IsLiveBehind version j file → file ≡ j.live
-into_live f bare Two rs j file from was h = h
-into_live f bare One rs j file (inl (qs, stands, least)) was h = absurd (let e : One ≡ Two = version_one f One Two rs qs was.stand stands in cc)
-into_live f bare One rs j file (inr (first, second)) was h =
-    let (live, none) = short_live f j.live was.bodies first second was.live in h (was.end ∙ ap (λ z. length (frames z)) none)
+pub into_live : (since fails : ℕ) (f : Files) (bare : Bool) (version : Version) (rs : List Record) (j : Journal) (file : ℕ) → StartsFrom since fails f → ReadOf f bare version rs j → IsLiveBehind version j file
+    → file ≡ j.live
+into_live since fails f bare Two rs j file from was h = h
+into_live since fails f bare One rs j file (inl (qs, stands, least)) was h = absurd (let e : One ≡ Two = version_one f One Two rs qs was.stand stands in cc)
+into_live since fails f bare One rs j file (inr ((first, second), so)) was h =
+    let (live, none) = bodiless_live f j.live was.bodies first second was.live in h (was.end ∙ ap (λ z. length (frames z)) none)
 
 -- and whether the other one's first gate is to be shut stays
-pub still_unshut : (f : Files) (bare : Bool) (version : Version) (rs : List Record) (j k : Journal) → StartsFrom f → ReadOf f bare version rs j → IsJournalBehind version j k → k.unshut ≡ j.unshut
-still_unshut f bare Two rs j k from was h = h.unshut
-still_unshut f bare One rs j k (inl (qs, stands, least)) was h = absurd (let e : One ≡ Two = version_one f One Two rs qs was.stand stands in cc)
-still_unshut f bare One rs j k (inr (first, second)) was h =
-    let (live, none) = short_live f j.live was.bodies first second was.live in (h.0 (was.end ∙ ap (λ z. length (frames z)) none)).unshut
+pub still_unshut : (since fails : ℕ) (f : Files) (bare : Bool) (version : Version) (rs : List Record) (j k : Journal) → StartsFrom since fails f → ReadOf f bare version rs j → IsJournalBehind version j k → k.unshut ≡ j.unshut
+still_unshut since fails f bare Two rs j k from was h = h.unshut
+still_unshut since fails f bare One rs j k (inl (qs, stands, least)) was h = absurd (let e : One ≡ Two = version_one f One Two rs qs was.stand stands in cc)
+still_unshut since fails f bare One rs j k (inr ((first, second), so)) was h =
+    let (live, none) = bodiless_live f j.live was.bodies first second was.live in (h.0 (was.end ∙ ap (λ z. length (frames z)) none)).unshut
 
--- files without bodies, of a machine that can start, have nothing in them
-gates : (f : Files) → StartsFrom f → FilesOf f One [] → (bare : Bool) (version : Version) (rs : List Record) (j : Journal) → ReadOf f bare version rs j → bare ≡ true
-gates f (inl (qs, stands, least)) empty bare version rs j was =
-    absurd (let e : One ≡ Two = version_one f One Two [] qs (record { texts = []; is = empty; are = tt }) stands in cc)
-gates f (inr (first, second)) empty bare version rs j was = let (live, none) = short_live f j.live was.bodies first second was.live in was.when.1 (live, first)
+-- Where none of the two calls fails that write a first gate, one before them did.
+abbrev two_by : Bool → Bool → List Made → List Made
+two_by a b rest = record { call = Call.Sync 0; done = not a } ∷ (if not a then record { call = Call.Sync 1; done = not b } ∷ (if not b then rest else []) else [])
+
+none_at : (k fails : ℕ) → (fails ≡ k → ⊥) → nat_eq k fails ≡ false
+none_at k fails other = ne_eqb k fails (λ e. other (sym e))
+
+in_syncs : (since fails : ℕ) (made : List Made) → (fails ≡ since + 3 → ⊥) → (fails ≡ since + 4 → ⊥) → ((more : List Call) → made ≡ cut since fails ((syncs ++ shuts) ++ more)) → 1 ≤ refusals made → (more : List Call)
+    → made ≡ cut since fails (syncs ++ more)
+in_syncs since fails made third fourth e some more = by (nat_eq (suc since) fails) (nat_eq (suc (suc since)) fails) refl refl
+  where
+    gate_calls : cut (suc (suc since)) fails (shuts ++ []) ≡ map done shuts
+    gate_calls =
+        let a = none_at (suc (suc (suc since))) fails (λ f. third (omega (arith, f))) in
+        let b = none_at (suc (suc (suc (suc since)))) fails (λ f. fourth (omega (arith, f))) in
+        λ i. record { call = Call.Write 0 0 (0 ∷ []); done = not (a i) } ∷ (if not (a i) then record { call = Call.Sync 0; done = not (b i) } ∷ (if not (b i) then [] else []) else [])
+
+    whole : (a b : Bool) → nat_eq (suc since) fails ≡ a → nat_eq (suc (suc since)) fails ≡ b → (rest : List Call) → cut since fails (syncs ++ rest) ≡ two_by a b (cut (suc (suc since)) fails rest)
+    whole a b f g rest = λ i. two_by (f i) (g i) (cut (suc (suc since)) fails rest)
+
+    by : (a b : Bool) → nat_eq (suc since) fails ≡ a → nat_eq (suc (suc since)) fails ≡ b → made ≡ cut since fails (syncs ++ more)
+    by true b f g = e [] ∙ whole true b f g (shuts ++ []) ∙ sym (whole true b f g more)
+    by false true f g = e [] ∙ whole false true f g (shuts ++ []) ∙ sym (whole false true f g more)
+    by false false f g =
+        let all : made ≡ map done (syncs ++ shuts) = e [] ∙ whole false false f g (shuts ++ []) ∙ ap (two_by false false) gate_calls in
+        let none = all_refused_none made (subst AllDone (sym all) (each_done (syncs ++ shuts))) in
+        absurd (omega (arith, none, some))
 
 module _ (hold : LinksHold) (fail : CallsFailAsTold) (want : StartsFailForWant) (base : List ℕ) (fails : ℕ) (old new : MemSite) (made : List Made) where
   abbrev since : ℕ
@@ -114,7 +138,7 @@ module _ (hold : LinksHold) (fail : CallsFailAsTold) (want : StartsFailForWant) 
         journal = S.journal;
         file = n.journal.live;
         was = was_up;
-        goes_into = into_live f S.bare S.version S.rs S.journal n.journal.live H.from was_up S.live;
+        goes_into = into_live since fails f S.bare S.version S.rs S.journal n.journal.live H.from was_up S.live;
         is = refl;
       }) (whole_cut since fails row made up_made (armed_row fail hold old new made fails H.told kept_up H.adds)) (all_refused_none made (subst AllDone (sym up_made) (each_done row)));
       grown = up_calls ∙ ap (λ z. calls_in old.device ++ z) (sym up_made);
@@ -146,10 +170,16 @@ module _ (hold : LinksHold) (fail : CallsFailAsTold) (want : StartsFailForWant) 
     off : (row : List Call) → BreaksOff row C.made → (more : List Call) → made ≡ cut since fails (row ++ more)
     off row b more = breaks_cut since fails row more made (subst (BreaksOff row) (sym down_made) b) some armed
 
+    gated : FilesOf f One [] → BreaksOff (syncs ++ shuts) C.made → StartsFrom since fails f → StartedSo since fails f made (Err faults.Disk)
+    gated empty b (inl (qs, stands, least)) = absurd (let e : One ≡ Two = version_one f One Two [] qs (record { texts = []; is = empty; are = tt }) stands in cc)
+    gated empty b (inr ((first, second), inl short)) =
+        StartedSo.down refl (syncs ++ shuts) (Stage.at_gate refl (λ bare version rs j was. was.when.1 ((bodiless_live f j.live was.bodies first second was.live).0, short))) (off (syncs ++ shuts) b) some
+    gated empty b (inr ((first, second), inr (third, fourth))) = StartedSo.down refl syncs (Stage.at_sync refl) (in_syncs since fails made third fourth (off (syncs ++ shuts) b) some) some
+
     stage : FailsAt C.made (told_of old) ⊎ BeganTo (λ calls. BreaksOff calls C.made) (told_of old) → StartedSo since fails f made (Err faults.Disk)
     stage (inl (sync b)) = StartedSo.down refl syncs (Stage.at_sync refl) (off syncs b) some
     stage (inl (read e)) = absurd (let none = all_refused_none made (subst AllDone (sym (down_made ∙ e)) (each_done syncs)) in let one = some in omega (arith, none, one))
-    stage (inl (gate empty b)) = StartedSo.down refl (syncs ++ shuts) (Stage.at_gate refl (gates f H.from (empty f refl))) (off (syncs ++ shuts) b) some
+    stage (inl (gate empty b)) = gated (empty f refl) b H.from
     stage (inr B) =
         let was = read_of B.bare B.version B.rs B.journal old B.was in
         StartedSo.down refl (start_calls B.bare B.version B.rs B.journal B.file) (Stage.at_row (record {
@@ -159,7 +189,7 @@ module _ (hold : LinksHold) (fail : CallsFailAsTold) (want : StartsFailForWant) 
           journal = B.journal;
           file = B.file;
           was = was;
-          goes_into = into_live f B.bare B.version B.rs B.journal B.file H.from was B.behind;
+          goes_into = into_live since fails f B.bare B.version B.rs B.journal B.file H.from was B.behind;
           is = refl;
         })) (off (start_calls B.bare B.version B.rs B.journal B.file) B.ended) some
 
@@ -171,21 +201,12 @@ module _ (hold : LinksHold) (fail : CallsFailAsTold) (want : StartsFailForWant) 
       arming = kept_down;
     }
 
-  stands_so : StartsFrom f → (rs : List Record) × StandSo rs f × (last_incarnation rs < 4294967295)
+  stands_so : StartsFrom since fails f → (rs : List Record) × StandSo rs f × (last_incarnation rs < 4294967295)
   stands_so (inl (rs, stands, least)) = (rs, inl stands, least)
-  stands_so (inr (first, second)) = ([], inr (refl, record { texts = []; is = empty; are = tt }), omega arith)
+  stands_so (inr ((first, second), so)) = ([], inr (refl, record { texts = []; is = empty; are = tt }), omega arith)
     where
       empty : FilesOf f One []
-      empty = record {
-        live = 0;
-        bodies = [];
-        others = [];
-        is = record { listed = record { sized = tt; placed = tt }; is = inl (first, refl) };
-        other = record { listed = record { sized = tt; placed = tt }; is = inl (second, refl) };
-        newer = omega arith;
-        versions = refl;
-        all = refl;
-      }
+      empty = record { live = 0; bodies = []; others = []; is = first; other = second; newer = omega arith; versions = refl; all = refl }
 
   can : (result : Result Node StartFault) → HasBegun base fails result old new made → CanBegin old
   can result H = let (rs, stands, least) = stands_so H.from in record { records = rs; stand = stands; least = least; room = H.room }

@@ -3,7 +3,7 @@ use Rattle.std.specs.Prelude.{ℕ, List, [], ◌∷◌, ◌++◌, ◌+◌, ◌-�
 use Rattle.std.proofs.Common.{ap, arith, inl, inr, refl, subst, sym, ◌∙◌}
 use Rattle.at_base.specs.declared.record.Record.{Record}
 use Rattle.journal_at.specs.Compactions.{prepare_calls, text_of}
-use Rattle.journal_at.specs.Format.{frames, head_of}
+use Rattle.journal_at.specs.Format.{FileOf, frames, head_of}
 use Rattle.journal_at.specs.Loads.{IsBare, shuts_if, syncs}
 use Rattle.journal_at.specs.Pairs.{HasLive}
 use Rattle.journal_at.specs.Scans.{IsGate}
@@ -11,7 +11,6 @@ use Rattle.journal_at.specs.StandingBodies.{raise}
 use Rattle.journal_at.specs.declared.journal.Journal.{Journal}
 use Rattle.journal_at.specs.declared.version.Version.{Version}
 use Rattle.journal_at.specs.declared.version.Version.TheVariants.{One, Two}
-use Rattle.journal_at.proofs.Openings.{bare_none}
 use Rattle.decision_log.specs.ShrunkJournals.{texts_of}
 use Rattle.node_at.specs.Sizes.{end_of}
 use Rattle.node_at.specs.Starts.{IsRead, StandFor, append_calls, carried, first_mark, start_after, start_calls}
@@ -123,11 +122,11 @@ rows_one apart f xs ys h k =
     ∙ (λ i. row_of (s.bare_is i) (s.version_is i) (s.records i) (s.live i) (s.end i) (s.unshut i) (s.generation i) (file i))
     ∙ sym (row_is k.bare k.version k.records k.journal k.file) ∙ sym k.is
 
--- files of at most one byte have nothing in them, and file 0 is live
-pub short_live : (f : Files) (live : ℕ) (bodies : List (List ℕ)) → length f.first ≤ 1 → length f.second ≤ 1 → HasLive live bodies f → (live ≡ 0) × (bodies ≡ [])
-short_live f zero bodies first second (h, older) = (refl, bare_none f.first bodies first h)
-short_live f (suc n) bodies first second (h, older) =
-    let none = bare_none f.second bodies second h in
-    let others = bare_none f.first older.others first older.is in
+-- where neither file has a body, file 0 is live
+pub bodiless_live : (f : Files) (live : ℕ) (bodies : List (List ℕ)) → FileOf f.first [] → FileOf f.second [] → HasLive live bodies f → (live ≡ 0) × (bodies ≡ [])
+bodiless_live f zero bodies first second (h, older) = (refl, file_one f.first bodies [] h first)
+bodiless_live f (suc n) bodies first second (h, older) =
+    let none = file_one f.second bodies [] h second in
+    let others = file_one f.first older.others [] older.is first in
     let less = older.newer in
     absurd (omega (arith, less, ap (λ z. (head_of z).generation) none, ap (λ z. (head_of z).generation) others))

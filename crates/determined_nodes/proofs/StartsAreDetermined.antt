@@ -103,11 +103,11 @@ module _ (apart : AreApart) (base : List ℕ) (n m : Node) (old new here there :
   all_records : started S.version S.rs ≡ started T.version T.rs
   all_records = λ i. started (R.version_is i) (R.records i)
 
-  module _ (from : StartsFrom (read_in old)) where
+  module _ (since fails : ℕ) (from : StartsFrom since fails (read_in old)) where
     live : n.journal.live ≡ m.journal.live
     live =
-        into_live (read_in old) S.bare S.version S.rs S.journal n.journal.live from was S.live ∙ R.live
-        ∙ sym (into_live (read_in old) T.bare T.version T.rs T.journal m.journal.live from its_was T.live)
+        into_live since fails (read_in old) S.bare S.version S.rs S.journal n.journal.live from was S.live ∙ R.live
+        ∙ sym (into_live since fails (read_in old) T.bare T.version T.rs T.journal m.journal.live from its_was T.live)
 
     bodies : S.holds.bodies ≡ T.holds.bodies
     bodies = bodies_one new there n.journal m.journal behind.opening behind.calls live S.holds.bodies T.holds.bodies S.holds.keeps T.holds.keeps
@@ -123,8 +123,8 @@ module _ (apart : AreApart) (base : List ℕ) (n m : Node) (old new here there :
           end = S.holds.keeps.end ∙ ap (λ z. length (frames z)) bodies ∙ sym T.holds.keeps.end;
           limit = S.limit_is ∙ sym T.limit_is;
           generation = S.holds.keeps.generation ∙ ap (λ z. (head_of z).generation) bodies ∙ sym T.holds.keeps.generation;
-          unshut = still_unshut (read_in old) S.bare S.version S.rs S.journal n.journal from was S.behind ∙ R.unshut
-              ∙ sym (still_unshut (read_in old) T.bare T.version T.rs T.journal m.journal from its_was T.behind);
+          unshut = still_unshut since fails (read_in old) S.bare S.version S.rs S.journal n.journal from was S.behind ∙ R.unshut
+              ∙ sym (still_unshut since fails (read_in old) T.bare T.version T.rs T.journal m.journal from its_was T.behind);
           unsure = S.holds.sure ∙ sym T.holds.sure;
         };
       };
@@ -136,7 +136,7 @@ alike : AreApart → (base : List ℕ) (since fails : ℕ) (r s : Result Node St
 alike apart base since fails r s old new here there made also machine behind H K (up n a xs h e none) (up m b ys k g nothing) =
     subst (λ z. StartAlike z s) (sym a)
     (subst (StartAlike (Ok n)) (sym b)
-    (nodes_same apart base n m old new here there machine behind (subst (λ z. Begins base z old new) a H.begins).0 (subst (λ z. Begins base z here there) b K.begins).0 H.from))
+    (nodes_same apart base n m old new here there machine behind (subst (λ z. Begins base z old new) a H.begins).0 (subst (λ z. Begins base z here there) b K.begins).0 (length (calls_in old.device)) fails H.from))
 alike apart base since fails r s old new here there made also machine behind H K (up n a xs h e none) (down b ys k g some) = absurd (not_both apart (read_in old) since fails made also xs ys h e none k g some)
 alike apart base since fails r s old new here there made also machine behind H K (down a xs h e some) (up m b ys k g none) = absurd (not_both apart (read_in old) since fails also made ys xs k g none h e some)
 alike apart base since fails r s old new here there made also machine behind H K (down a xs h e some) (down b ys k g one) =

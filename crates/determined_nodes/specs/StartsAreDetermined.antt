@@ -1,7 +1,8 @@
 -- Starts of nodes on machines that are alike.
-use Rattle.std.specs.Prelude.{ℕ, List, Err, Ok, Result, Some, ◌≡◌, ◌≤◌, ◌<◌, ◌⊎◌, length}
+use Rattle.std.specs.Prelude.{ℕ, List, [], ◌+◌, Err, Ok, Result, Some, ◌≡◌, ◌≤◌, ◌<◌, ◌⊎◌, length}
 use Rattle.at_base.specs.declared.record.Record.{Record}
 use Rattle.at_model.specs.Recovery.{last_incarnation}
+use Rattle.journal_at.specs.Format.{FileOf}
 use Rattle.journal_at.specs.declared.version.Version.TheVariants.{Two}
 use Rattle.memory_net.specs.Calls.{Begins}
 use Rattle.mirrored_nets.specs.Took.{Adds, HasRoom}
@@ -17,14 +18,21 @@ use Rattle.site_memory.specs.declared.machine.MemSite.{MemSite}
 use Rattle.site_model.specs.Told.{Files, Made}
 use Rattle.determined_nodes.specs.SameNodes.{IsSameBehind, IsSameMachine}
 
--- Files of version 2, behind whose records incarnations are left; or such as nothing but a first gate was written into.
-abbrev pub StartsFrom : Files → Type 0
-StartsFrom f = ((rs : List Record) × StandFor Two rs f × (last_incarnation rs < 4294967295)) ⊎ ((length f.first ≤ 1) × (length f.second ≤ 1))
+-- neither file has a body
+abbrev pub HasNoBody : Files → Type 0
+HasNoBody f = FileOf f.first [] × FileOf f.second []
+
+-- Behind so many calls: files of version 2, behind whose records incarnations are left; or files without bodies, of which the first has at most one
+-- byte, or none of the two calls is to fail by which a first gate would be written.
+abbrev pub StartsFrom : (since fails : ℕ) → Files → Type 0
+StartsFrom since fails f =
+    ((rs : List Record) × StandFor Two rs f × (last_incarnation rs < 4294967295))
+    ⊎ (HasNoBody f × ((length f.first ≤ 1) ⊎ ((fails ≡ since + 3 → ⊥) × (fails ≡ since + 4 → ⊥))))
 
 -- A start on a machine of such files that has room, for which there was memory, and the calls that it made. The machine was told which of its calls is to
 -- fail, by its number among all, or none.
 pub record HasBegun (base : List ℕ) (fails : ℕ) (result : Result Node StartFault) (old new : MemSite) (made : List Made) : Type 0 where
-  pub from : StartsFrom (reads (opening_in old.device) (calls_in old.device))
+  pub from : StartsFrom (length (calls_in old.device)) fails (reads (opening_in old.device) (calls_in old.device))
   pub room : HasRoom old
   pub told : (told_of old).counts.arming ≡ Some (record { since = length (calls_in old.device); fails = fails })
   pub begins : Begins base result old new
