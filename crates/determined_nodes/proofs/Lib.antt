@@ -17,3 +17,4 @@ mod RequestsAreDetermined
 mod ReadJournals
 mod DidStarts
 mod StartsAreDetermined
+mod NetNodes

@@ -4,3 +4,4 @@ pub mod AlikeCalls
 pub mod TurnsAreDetermined
 pub mod RequestsAreDetermined
 pub mod StartsAreDetermined
+pub mod NetNodes
