@@ -86,9 +86,6 @@ module _ (goes : Bool) (since fails now : ℕ) (meaning : Meaning) (n : State) (
   pub outs_armed : AreArmed (since + length line + length X.d.first) fails outs
   outs_armed = (parts_armed (since + length line + length X.d.first) fails outs X.anew behind_first).0
 
-  pub anew_armed : AreArmed (since + length line + length X.d.first + length outs) fails X.anew
-  anew_armed = (parts_armed (since + length line + length X.d.first) fails outs X.anew behind_first).1
-
   more : AreDoings (kept_by (if_landed X.first.landed X.first.entry) n.kept) X.rest X.ds
   more = X.doings.1
 
