@@ -18,3 +18,4 @@ mod ReadJournals
 mod DidStarts
 mod StartsAreDetermined
 mod NetNodes
+mod FallsAreDetermined

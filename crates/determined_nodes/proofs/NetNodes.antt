@@ -1,10 +1,9 @@
 -- Nodes of a net that mirrors a world are such as these laws speak of.
-use Rattle.std.specs.Prelude.{ℕ, List, [], ◌∷◌, ◌≡◌, ◌≤◌, ◌<◌, Bool, true, false, length}
+use Rattle.std.specs.Prelude.{ℕ, [], ◌≡◌, Bool, true}
 use Rattle.std.proofs.Common.{ap, arith, inl, inr, refl, subst, sym, ◌∙◌}
 use Rattle.carried_meanings.specs.CarriedMeanings.{MeanOneThing, PostsDontWait, PostsSay, TicksAsk}
 use Rattle.deliverables.specs.Bases.{ExamplesAreNodeBases}
 use Rattle.deliveries.specs.ByteNets.{ServeAsNets}
-use Rattle.http_post.specs.Conversations.{Waits}
 use Rattle.http_post.specs.Laws.{WaitOrNot}
 use Rattle.journal_at.specs.Format.{FileOf}
 use Rattle.memory_net.specs.Closed.{StaysClosed}
@@ -14,10 +13,9 @@ use Rattle.mirrored_nets.proofs.StoodStarts.{read_in}
 use Rattle.node_events.specs.NodeEvents.{one_if}
 use Rattle.site_memory.specs.Devices.{calls_in, opening_in}
 use Rattle.site_memory.specs.Disk.{ChosenAreImages}
-use Rattle.site_memory.specs.Sites.{IsNew, told_of}
+use Rattle.site_memory.specs.Sites.{told_of}
 use Rattle.site_memory.specs.Tells.{reads}
 use Rattle.site_memory.specs.declared.arm.Choice.TheVariants.{Keep}
-use Rattle.site_memory.specs.declared.machine.MemSite.{MemSite}
 use Rattle.site_model.specs.Told.{Files}
 use Rattle.small_envelopes.specs.SmallEnvelopes.{BareAreInLimits}
 use Rattle.determined_nodes.specs.NetNodes.{NetNodes}

@@ -132,12 +132,11 @@ requests_are_determined one hold fail law request fails r s n m p q old new here
     (X.time ∙ times ∙ sym Z.time) X.went Z.went in (
       S.answer,
       record {
-        calls = S.calls;
-        node = S.node;
-        machine = record {
-          opening = X.opening ∙ machine.opening ∙ sym Y.opening;
-          calls = X.grown ∙ (λ i. machine.calls i ++ S.calls i) ∙ sym Y.grown;
-          arming = X.arming ∙ machine.arming ∙ sym Y.arming;
+        machines = record {
+          calls = S.calls;
+          machine = record { opening = X.opening ∙ machine.opening ∙ sym Y.opening; calls = X.grown ∙ (λ i. machine.calls i ++ S.calls i) ∙ sym Y.grown };
+          arming = X.arming ∙ H.goes.told ∙ (λ i. Some (record { since = length (machine.calls i); fails = fails })) ∙ sym K.goes.told ∙ sym Y.arming;
         };
+        node = S.node;
       },
     )

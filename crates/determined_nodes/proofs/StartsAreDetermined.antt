@@ -1,5 +1,5 @@
 -- Two starts on machines that are alike do the same.
-use Rattle.std.specs.Prelude.{ℕ, List, [], ◌++◌, ◌≡◌, ◌≤◌, Err, Ok, Result, length}
+use Rattle.std.specs.Prelude.{ℕ, List, [], ◌++◌, ◌≡◌, ◌≤◌, Err, Ok, Result, Some, length}
 use Rattle.std.proofs.Common.{ap, append-nil, arith, refl, subst, sym, ◌∙◌}
 use Rattle.std.proofs.lemmas.List.{append_assoc}
 use Rattle.at_model.specs.Recovery.{recover}
@@ -153,6 +153,6 @@ starts_are_determined apart hold fail want base fails r s old new here there mad
     let behind : IsSameMachine new there = record {
       opening = X.opening ∙ machine.opening ∙ sym Y.opening;
       calls = X.grown ∙ (λ i. machine.calls i ++ calls i) ∙ sym Y.grown;
-      arming = X.arming ∙ machine.arming ∙ sym Y.arming;
     } in
-    (alike apart base (length (calls_in old.device)) fails r s old new here there made also machine behind H K X.went its, calls, behind)
+    let arming = X.arming ∙ H.told ∙ (λ i. Some (record { since = length (machine.calls i); fails = fails })) ∙ sym K.told ∙ sym Y.arming in
+    (alike apart base (length (calls_in old.device)) fails r s old new here there made also machine behind H K X.went its, record { calls = calls; machine = behind; arming = arming })

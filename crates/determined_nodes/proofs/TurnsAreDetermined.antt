@@ -1,5 +1,5 @@
 -- Two turns of nodes that are alike do the same.
-use Rattle.std.specs.Prelude.{◌++◌, length}
+use Rattle.std.specs.Prelude.{◌++◌, Some, length}
 use Rattle.std.proofs.Common.{subst, sym, ◌∙◌}
 use Rattle.carried_meanings.specs.CarriedMeanings.{MeanOneThing}
 use Rattle.http_post.specs.Laws.{WaitOrNot}
@@ -25,12 +25,11 @@ turns_are_determined one mean wait hold fail reply law bytes fails r s n m p q o
     Z.hearing (X.time ∙ times ∙ sym Z.time) X.went Z.went in (
       S.answer,
       record {
-        calls = S.calls;
-        node = S.node;
-        machine = record {
-          opening = X.opening ∙ machine.opening ∙ sym Y.opening;
-          calls = X.grown ∙ (λ i. machine.calls i ++ S.calls i) ∙ sym Y.grown;
-          arming = X.arming ∙ machine.arming ∙ sym Y.arming;
+        machines = record {
+          calls = S.calls;
+          machine = record { opening = X.opening ∙ machine.opening ∙ sym Y.opening; calls = X.grown ∙ (λ i. machine.calls i ++ S.calls i) ∙ sym Y.grown };
+          arming = X.arming ∙ H.goes.told ∙ (λ i. Some (record { since = length (machine.calls i); fails = fails })) ∙ sym K.goes.told ∙ sym Y.arming;
         };
+        node = S.node;
       },
     )

@@ -22,8 +22,13 @@ pub record CanGo (fails : ℕ) (n : Node) (old : MemSite) : Type 0 where
   pub room : HasRoom old
   pub told : (told_of old).counts.arming ≡ Some (record { since = length (calls_in old.device); fails = fails })
 
--- the same calls, and nodes and machines that are alike behind them
-pub record EndAlike (n m : Node) (s t : MemSite) (made also : List Made) : Type 0 where
+-- the same calls, and behind them machines that are alike, and were told to fail the same
+pub record MachinesAlike (s t : MemSite) (made also : List Made) : Type 0 where
   pub calls : made ≡ also
-  pub node : IsSameBehind (seen n) (seen m)
   pub machine : IsSameMachine s t
+  pub arming : (told_of s).counts.arming ≡ (told_of t).counts.arming
+
+-- and nodes that are alike
+pub record EndAlike (n m : Node) (s t : MemSite) (made also : List Made) : Type 0 where
+  pub machines : MachinesAlike s t made also
+  pub node : IsSameBehind (seen n) (seen m)

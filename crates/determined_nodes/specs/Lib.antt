@@ -5,3 +5,4 @@ pub mod TurnsAreDetermined
 pub mod RequestsAreDetermined
 pub mod StartsAreDetermined
 pub mod NetNodes
+pub mod FallsAreDetermined

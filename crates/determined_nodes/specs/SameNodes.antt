@@ -3,7 +3,6 @@ use Rattle.std.specs.Prelude.{◌≡◌, false}
 use Rattle.journal_at.specs.declared.journal.Journal.{Journal}
 use Rattle.node_at.specs.State.{State}
 use Rattle.site_memory.specs.Devices.{calls_in, opening_in}
-use Rattle.site_memory.specs.Sites.{told_of}
 use Rattle.site_memory.specs.declared.machine.MemSite.{MemSite}
 
 -- a journal, but for the room that it has taken
@@ -27,8 +26,7 @@ pub record IsSameBehind (n m : State) : Type 0 where
   pub same : IsSameNode n m
   pub effects : n.effects ≡ m.effects
 
--- A machine: its files when it was opened, its calls since, and what it was told to fail. Its time is set before each call.
+-- A machine: its files when it was opened, and its calls since. Its time, and which call of it is to fail, are set before each call.
 pub record IsSameMachine (s t : MemSite) : Type 0 where
   pub opening : opening_in s.device ≡ opening_in t.device
   pub calls : calls_in s.device ≡ calls_in t.device
-  pub arming : (told_of s).counts.arming ≡ (told_of t).counts.arming

@@ -16,6 +16,7 @@ use Rattle.site_memory.specs.Sites.{told_of}
 use Rattle.site_memory.specs.Tells.{reads}
 use Rattle.site_memory.specs.declared.machine.MemSite.{MemSite}
 use Rattle.site_model.specs.Told.{Files, Made}
+use Rattle.determined_nodes.specs.AlikeCalls.{MachinesAlike}
 use Rattle.determined_nodes.specs.SameNodes.{IsSameBehind, IsSameMachine}
 
 -- neither file has a body
@@ -50,4 +51,4 @@ StartAlike (Err e) (Err f) = e ≡ f
 abbrev pub StartsAreDetermined : Type 0
 StartsAreDetermined =
     (base : List ℕ) (fails : ℕ) (r s : Result Node StartFault) (old new here there : MemSite) (made also : List Made) → IsSameMachine old here → HasBegun base fails r old new made → HasBegun base fails s here there also
-    → StartAlike r s × (made ≡ also) × IsSameMachine new there
+    → StartAlike r s × MachinesAlike new there made also

@@ -1,5 +1,6 @@
 //! Two calls of nodes that are alike, on machines that are alike, do the same.
 
+ghost use Rattle.determined_nodes.specs.FallsAreDetermined.{FallsAreDetermined};
 ghost use Rattle.determined_nodes.specs.NetNodes.{NetNodes};
 ghost use Rattle.determined_nodes.specs.Outs.{LeaveOneWay};
 ghost use Rattle.determined_nodes.specs.RequestsAreDetermined.{RequestsAreDetermined};
@@ -65,6 +66,12 @@ pub fn starts_are_determined()
     calls_fail_as_told();
     starts_fail_for_want();
 }
+
+/// And so does a choice determine what a crash leaves of it.
+#[tactic(auto, using(crate::proofs::FallsAreDetermined::falls_are_determined))]
+pub fn falls_are_determined()
+    ensures { FallsAreDetermined }
+{}
 
 /// Nodes that are up in a net which mirrors a world are such as these laws speak of, and so are the files of one that has started before, and of a
 /// new machine.
