@@ -19,3 +19,4 @@ mod DidStarts
 mod StartsAreDetermined
 mod NetNodes
 mod FallsAreDetermined
+mod OneReading

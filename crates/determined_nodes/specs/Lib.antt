@@ -6,3 +6,4 @@ pub mod RequestsAreDetermined
 pub mod StartsAreDetermined
 pub mod NetNodes
 pub mod FallsAreDetermined
+pub mod OneReading

@@ -2,6 +2,7 @@
 
 ghost use Rattle.determined_nodes.specs.FallsAreDetermined.{FallsAreDetermined};
 ghost use Rattle.determined_nodes.specs.NetNodes.{NetNodes};
+ghost use Rattle.determined_nodes.specs.OneReading.{EventsHaveOneReading};
 ghost use Rattle.determined_nodes.specs.Outs.{LeaveOneWay};
 ghost use Rattle.determined_nodes.specs.RequestsAreDetermined.{RequestsAreDetermined};
 ghost use Rattle.determined_nodes.specs.StartsAreDetermined.{StartsAreDetermined};
@@ -71,6 +72,12 @@ pub fn starts_are_determined()
 #[tactic(auto, using(crate::proofs::FallsAreDetermined::falls_are_determined))]
 pub fn falls_are_determined()
     ensures { FallsAreDetermined }
+{}
+
+/// The calls of a turn or a request are read in one way, so those of nodes that are alike are one event.
+#[tactic(auto, using(crate::proofs::OneReading::events_have_one_reading))]
+pub fn events_have_one_reading()
+    ensures { EventsHaveOneReading }
 {}
 
 /// Nodes that are up in a net which mirrors a world are such as these laws speak of, and so are the files of one that has started before, and of a
