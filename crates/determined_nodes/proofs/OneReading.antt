@@ -1,8 +1,9 @@
 -- The calls of an event are read in one way.
-use Rattle.std.specs.Prelude.{ℕ, List, [], ◌∷◌, ◌-◌, ◌+◌, ◌≡◌, ◌≤◌, ◌<◌, ◌⊎◌, Bool, true, false, Option, Some, drop, if◌then◌else◌, length, nat_eq, nat_le, suc, zero}
+use Rattle.std.specs.Prelude.{ℕ, List, [], ◌∷◌, ◌-◌, ◌+◌, ◌≡◌, ◌≤◌, ◌<◌, ◌⊎◌, Bool, true, false, Option, Some, drop, if◌then◌else◌, length, nat_eq, nat_le, suc, zero, Err, Ok, Result}
 use Rattle.std.proofs.Common.{ap, arith, inl, inr, refl, subst, sym, true≢false, ◌∙◌}
 use Rattle.std.proofs.lemmas.Bool.{cases_lt, leb-false, leb-true}
-use Rattle.call_readings.specs.Reads.{IsUncut, Reads, ReadsAs, ReadsRequest, ReadsTurn, came_to, fate_behind, fate_number, is_halted, read_fates}
+use Rattle.call_readings.specs.Reads.{IsCutAt, IsUncut, Reads, ReadsAs, ReadsRequest, ReadsTurn, came_to, fate_behind, fate_number, is_halted, read_fates}
+use Rattle.call_readings.specs.ReadsStart.{CameUp, StartsAs}
 use Rattle.call_readings.specs.declared.became.Became.{Became}
 use Rattle.call_readings.specs.declared.became.Became.TheVariants as becomes
 use Rattle.mirrored_nets.specs.Fates.{anew_of, disk_part}
@@ -11,8 +12,11 @@ use Rattle.mirrored_nets.specs.Took.{AnswersSo, EndsSo, IsKept, IsWhole, StopsBe
 use Rattle.mirrored_nets.specs.TookAnew.{before_anew}
 use Rattle.mirrored_nets.specs.declared.judged.Armed.{Armed}
 use Rattle.mirrored_nets.specs.declared.judged.Armed.TheVariants as arms
+use Rattle.node_at.specs.declared.fault.StartFault.{StartFault}
+use Rattle.node_at.specs.declared.fault.StartFault.TheVariants.{Disk}
 use Rattle.node_at.specs.declared.local.Locally.{Locally}
 use Rattle.node_at.specs.declared.local.Locally.TheVariants as answers
+use Rattle.node_at.specs.declared.node.Node.{Node}
 use Rattle.node_at.specs.declared.turn.Turned.{Turned}
 use Rattle.node_at.specs.declared.turn.Turned.TheVariants as turneds
 use Rattle.read_calls.proofs.OneReading.{FailsOne, StopsOne, fails_one, last_at_out, last_in_record, one_at, stops_one}
@@ -20,6 +24,7 @@ use Rattle.site_memory.specs.declared.arm.Choice.{Choice}
 use Rattle.site_model.specs.Told.{Made}
 use Rattle.torn_appends.specs.TornAppends.{stands_behind}
 use Rattle.determined_nodes.specs.OneReading.{EventsHaveOneReading}
+use Rattle.determined_nodes.specs.StartsAreDetermined.{StartAlike}
 
 abbrev OneOf : Became → Became → List Bool → List Bool → Option ℕ → Option ℕ → Type 0
 OneOf b c f g u v = (b ≡ c) × (f ≡ g) × (u ≡ v)
@@ -193,9 +198,50 @@ requests_halt b c r h k = by (is_halted b) (is_halted c) refl refl
     by true false e f = absurd (apart b c h k e f)
     by false true e f = absurd (apart c b k h f e)
 
+-- starts
+
+apart_up : (r s : Result Node StartFault) → CameUp r → s ≡ Err Disk → StartAlike r s → ⊥
+apart_up r s (node, e) f h = subst (λ z. StartAlike z (Err Disk)) e (subst (StartAlike r) f h)
+
+apart_down : (r s : Result Node StartFault) → r ≡ Err Disk → CameUp s → StartAlike r s → ⊥
+apart_down r s e (node, f) h = subst (λ z. StartAlike z (Ok node)) e (subst (StartAlike r) f h)
+
+never_cut : (armed : Armed) (made : List Made) (k n : ℕ) (choice : Choice) → IsUncut armed made → IsCutAt armed made k n choice → ⊥
+never_cut armed made k n choice uncut cut = by (subst (λ a. IsUncut a made) cut.armed_is uncut)
+  where
+    by : (k ≡ 0) ⊎ (length made < k) → ⊥
+    by (inl none) = let least = cut.least in omega (arith, none, least)
+    by (inr past) = let within = cut.within in omega (arith, past, within)
+
+same_stop : (k j : ℕ) (choice left : Choice) → arms.Stop k choice ≡ arms.Stop j left → (k ≡ j) × (choice ≡ left)
+same_stop k j choice left e = let a : k ≡ j = cc in let b : choice ≡ left = cc in (a, b)
+
+starts_one : (armed : Armed) (made : List Made) (r s : Result Node StartFault) (b c : Became) (l m p q : Bool) → StartsAs armed made r b l p → StartsAs armed made s c m q → StartAlike r s → (b ≡ c) × (l ≡ m) × (p ≡ q)
+starts_one armed made r s becomes.Stays becomes.Stays l m p q (up, uncut, e, f) (too, missed, g, h) alike = (refl, e ∙ sym g, f ∙ sym h)
+starts_one armed made r s becomes.Stays (becomes.Falls n left) l m p q (up, uncut, e, f) (too, all, (k, cut), g, h) alike = absurd (never_cut armed made k n left uncut cut)
+starts_one armed made r s becomes.Stays becomes.Halts l m p q (up, uncut, e, f) (off, failing, last, g, h) alike = absurd (apart_up r s up off alike)
+starts_one armed made r s (becomes.Falls n left) becomes.Stays l m p q (up, all, (k, cut), e, f) (too, uncut, g, h) alike = absurd (never_cut armed made k n left uncut cut)
+starts_one armed made r s (becomes.Falls n left) (becomes.Falls o right) l m p q (up, all, (k, cut), e, f) (too, each, (j, off), g, h) alike =
+    let (a, b) = same_stop k j left right (sym cut.armed_is ∙ off.armed_is) in
+    let kept_same : n ≡ o = cut.kept_is ∙ (λ i. kept_at made (a i) (b i)) ∙ sym off.kept_is in
+    ((λ i. becomes.Falls (kept_same i) (b i)), e ∙ (λ i. stands_behind (kept_same i - 2) (b i)) ∙ sym g, f ∙ sym h)
+starts_one armed made r s (becomes.Falls n left) becomes.Halts l m p q (up, all, cut, e, f) (off, failing, last, g, h) alike = absurd (apart_up r s up off alike)
+starts_one armed made r s becomes.Halts becomes.Stays l m p q (off, failing, last, e, f) (too, uncut, g, h) alike = absurd (apart_down r s off too alike)
+starts_one armed made r s becomes.Halts (becomes.Falls n left) l m p q (off, failing, last, e, f) (too, all, cut, g, h) alike = absurd (apart_down r s off too alike)
+starts_one armed made r s becomes.Halts becomes.Halts l m p q (off, failing, last, e, f) (down, failed, end, g, h) alike = (refl, e ∙ sym g, f ∙ sym h)
+starts_one armed made r s (becomes.FallsAnew n left) c l m p q h k alike = absurd h
+starts_one armed made r s becomes.HaltsAnew c l m p q h k alike = absurd h
+starts_one armed made r s becomes.Stays (becomes.FallsAnew n left) l m p q h k alike = absurd k
+starts_one armed made r s becomes.Stays becomes.HaltsAnew l m p q h k alike = absurd k
+starts_one armed made r s (becomes.Falls o right) (becomes.FallsAnew n left) l m p q h k alike = absurd k
+starts_one armed made r s (becomes.Falls o right) becomes.HaltsAnew l m p q h k alike = absurd k
+starts_one armed made r s becomes.Halts (becomes.FallsAnew n left) l m p q h k alike = absurd k
+starts_one armed made r s becomes.Halts becomes.HaltsAnew l m p q h k alike = absurd k
+
 pub events_have_one_reading : EventsHaveOneReading
 events_have_one_reading = record {
   reads = reads_one;
   turns = λ armed lines made r h k. reads_one armed lines made h.became k.became h.fates k.fates h.until k.until h.reads k.reads (turns_halt h.became k.became r h.ends k.ends);
   requests = λ armed made r h k. reads_one armed 0 made h.became k.became h.fates k.fates h.until k.until h.reads k.reads (requests_halt h.became k.became r h.ends k.ends);
+  starts = λ armed made r s old new here there h k alike. starts_one armed made r s h.became k.became h.landed k.landed h.stop k.stop h.are k.are alike;
 }
