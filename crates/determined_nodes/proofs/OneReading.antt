@@ -1,8 +1,8 @@
 -- The calls of an event are read in one way.
 use Rattle.std.specs.Prelude.{ℕ, List, [], ◌∷◌, ◌-◌, ◌+◌, ◌≡◌, ◌≤◌, ◌<◌, ◌⊎◌, Bool, true, false, Option, Some, drop, if◌then◌else◌, length, nat_eq, nat_le, suc, zero, Err, Ok, Result}
 use Rattle.std.proofs.Common.{ap, arith, inl, inr, refl, subst, sym, true≢false, ◌∙◌}
-use Rattle.std.proofs.lemmas.Bool.{cases_lt, leb-false, leb-true}
-use Rattle.call_readings.specs.Reads.{IsCutAt, IsUncut, Reads, ReadsAs, ReadsRequest, ReadsTurn, came_to, fate_behind, fate_number, is_halted, read_fates}
+use Rattle.std.proofs.lemmas.Bool.{cases_lt, leb-false}
+use Rattle.call_readings.specs.Reads.{IsCutAt, IsUncut, Reads, ReadsAs, came_to, fate_behind, fate_number, is_halted}
 use Rattle.call_readings.specs.ReadsStart.{CameUp, StartsAs}
 use Rattle.call_readings.specs.declared.became.Became.{Became}
 use Rattle.call_readings.specs.declared.became.Became.TheVariants as becomes
