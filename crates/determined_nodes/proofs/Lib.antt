@@ -20,3 +20,4 @@ mod StartsAreDetermined
 mod NetNodes
 mod FallsAreDetermined
 mod OneReading
+mod AlikeHosts

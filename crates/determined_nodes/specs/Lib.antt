@@ -7,3 +7,4 @@ pub mod StartsAreDetermined
 pub mod NetNodes
 pub mod FallsAreDetermined
 pub mod OneReading
+pub mod AlikeHosts

@@ -1,5 +1,6 @@
 //! Two calls of nodes that are alike, on machines that are alike, do the same.
 
+ghost use Rattle.determined_nodes.specs.AlikeHosts.{HostsStayAlike};
 ghost use Rattle.determined_nodes.specs.FallsAreDetermined.{FallsAreDetermined};
 ghost use Rattle.determined_nodes.specs.NetNodes.{NetNodes};
 ghost use Rattle.determined_nodes.specs.OneReading.{EventsHaveOneReading};
@@ -74,7 +75,15 @@ pub fn falls_are_determined()
     ensures { FallsAreDetermined }
 {}
 
-/// The calls of a turn or a request are read in one way, so those of nodes that are alike are one event.
+/// So hosts that are alike stay so.
+#[tactic(auto, using(crate::proofs::AlikeHosts::hosts_stay_alike))]
+pub fn hosts_stay_alike()
+    ensures { HostsStayAlike }
+{
+    falls_are_determined();
+}
+
+/// The calls of a turn, a request and a start are read in one way, so those of nodes that are alike are one event.
 #[tactic(auto, using(crate::proofs::OneReading::events_have_one_reading))]
 pub fn events_have_one_reading()
     ensures { EventsHaveOneReading }
