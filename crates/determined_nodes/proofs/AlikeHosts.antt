@@ -1,6 +1,6 @@
 -- Hosts that are alike stay so.
-use Rattle.std.specs.Prelude.{ℕ, Option, Some, None, ◌≡◌}
-use Rattle.std.proofs.Common.{ap, subst, sym, ◌∙◌}
+use Rattle.std.specs.Prelude.{Option, Some, None, ◌≡◌}
+use Rattle.std.proofs.Common.{subst, sym, ◌∙◌}
 use Rattle.memory_net.specs.declared.host.Host.{Host}
 use Rattle.mirrored_nets.specs.Took.{LeftSo}
 use Rattle.mirrored_nets.specs.declared.came.Came.{Came}
@@ -30,10 +30,9 @@ left_one falls cames.Halts m q old new here there h g same before behind (down, 
 
 pub hosts_stay_alike : FallsAreDetermined → HostsStayAlike
 hosts_stay_alike falls = record {
-  set = λ now h g old here same one other.
-      (
-        record { opening = one.opening ∙ same.site.opening ∙ sym other.opening; calls = one.calls ∙ same.site.calls ∙ sym other.calls },
-        one.clock ∙ sym other.clock,
-      );
+  set = λ now h g old here same one other. (
+    record { opening = one.opening ∙ same.site.opening ∙ sym other.opening; calls = one.calls ∙ same.site.calls ∙ sym other.calls },
+    one.clock ∙ sym other.clock,
+  );
   left = left_one falls;
 }
