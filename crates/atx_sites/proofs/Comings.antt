@@ -1,5 +1,6 @@
 -- Connections that came, and what was read of them.
 use Rattle.std.proofs.Common.{append_assoc, append-nil, ℕ, List, Option, None, Some, Ok, [], ◌∷◌, suc, ◌≡◌, ◌<◌, ◌++◌, ◌∙◌, refl, sym, ap, subst, take, drop, length, slice_index_or}
+use Rattle.std.specs.Prelude.{IfSome}
 use Rattle.std.specs.List.{remove}
 use lib.ListN.{set}
 use Rattle.std.proofs.lemmas.List.Elements.{All-append, All-drop, All-nil, All-push, All-set, All-take, All-weaker}
@@ -15,6 +16,10 @@ use Rattle.atx_sites.specs.declared.arriving.Arriving.{Arriving}
 use Rattle.atx_sites.specs.declared.connection.Connection.{Connection}
 use Rattle.atx_sites.specs.declared.connection.Served.{Served}
 use Rattle.atx_sites.specs.declared.waiting.Waiting.{Waiting}
+
+pub if_some : {A : Type 0} (P : A → Type 0) (o : Option A) (x : A) → IfSome o P → o ≡ Some x → P x
+if_some P (Some y) x h e = let same : y ≡ x = cc in subst P same h
+if_some P None x h e = cc
 
 pub as_late : (old : Calls) → Later old old
 as_late old = none refl
@@ -104,6 +109,10 @@ module _ {L C : Type 0} (number : C → Number) (listens : L → Number) where
   came_taken mid new closed taken listener is came h =
       subst (λ k. HasCome number (number_at listens k) new taken) (sym is)
       (came (subst (λ k. HaveCome number (number_at listens k) mid closed.waiting.arriving.items) is h.0))
+
+  -- of one that is served it is so as of the one that was taken
+  pub came_as : (calls : Calls) (listener : Number) (taken served : Arriving C) → served ≡ taken → HasCome number listener calls taken → HasCome number listener calls served
+  came_as calls listener taken served e h = subst (λ (a : Arriving C). HasCome number listener calls a) (sym e) h
 
 -- a connection that was accepted
 pub came_first : (listener stream : Number) (address : SocketAddr) (mid new : Calls) → new ≡ then (Accept listener (Ok (stream, address))) mid → Came listener stream [] new

@@ -1,17 +1,21 @@
 //! The listener of a node, the connections that are read aside, and the one that is served.
 
-ghost use Rattle.std.specs.Prelude.{[], ◌≡◌, ◌≤◌, ◌<◌, ◌+◌, ◌++◌, ◌^◌, None, Some, IfErr, IfOk, IfSome, IsErr, OnErr, OnOk, drop, length, take};
+ghost use Rattle.std.specs.Prelude.{[], ◌≡◌, ◌≤◌, ◌<◌, ◌+◌, ◌++◌, ◌^◌, All, List, None, Some, IfErr, IfOk, IfSome, IsErr, OnErr, OnOk, drop, false, length, take, true};
 ghost use Rattle.std.specs.Io.{ReadsAtMost, WritesAtMost};
-ghost use Rattle.std.specs.IoError.{raw_os_error};
-ghost use Rattle.system_calls.specs.Calls.{Number};
-ghost use Rattle.atx_sites.specs.Arrivals.{Bounded, ConnectionCame, Gives, HasCome, HaveCome, Keeps, KeepsOn, ServedCame};
-ghost use Rattle.atx_sites.specs.LinkCalls.{IfListens, Later, Looks, Pauses, Polls, Sends, number_at};
-ghost use Rattle.atx_sites.specs.Departures.{Within};
+ghost use Rattle.std.specs.declared.time.Duration.{Duration};
+ghost use Rattle.system_calls.specs.Calls.{Calls, Number};
+ghost use Rattle.atx_sites.specs.Arrivals.{Bounded, ConnectionCame, Gives, HasCome, HaveCome, Keeps, KeepsOn, ServedCame, is_ready, is_silent};
+ghost use Rattle.atx_sites.specs.LinkCalls.{IfListens, Later, Looks, Pauses, Polls, ReadsClock, Sends, number_at};
+ghost use Rattle.atx_sites.specs.Departures.{IsOnTime, IsTimed, Within};
+ghost use Rattle.atx_sites.specs.Interim.{begun_of};
+ghost use Rattle.atx_sites.specs.Waits.{Changes, IfAllOnTime, IfInTime, IsInTime};
+ghost use Rattle.atx_sites.specs.declared.arriving.Arriving.{Arriving};
+ghost use Rattle.atx_sites.specs.declared.outgoing.Outgoing.{Outgoing};
 ghost use Rattle.atx_sites.specs.Failures.{Ends};
 ghost use Rattle.atx_sites.specs.declared.troubles.Step.TheVariants as steps;
 
-use crate::arriving::{Arriving, Rest, read_on};
-use crate::deadlines::{earlier, millis_until};
+use crate::arriving::{Arriving, Rest, interim, read_on};
+use crate::deadlines::{earlier, has_passed, millis_until};
 use crate::departures::{self, Departures};
 use crate::waiting::{self, Waiting, accept_all, read_found};
 use libc::types::pollfd;
@@ -78,7 +82,7 @@ fn begin<L, C: AsRawFd + Drop>(
 ) -> Result<(), AllocError>
     ensures aside { connection.new.waiting.arriving.items ≡ [] }
     ensures same { (connection.new.listener ≡ connection.old.listener) × (connection.new.served ≡ connection.old.served) }
-    ensures leaving { (departures.new.leaving.items ≡ departures.old.leaving.items) × (departures.new.lost ≡ departures.old.lost) }
+    ensures leaving { (departures.new.leaving.items ≡ departures.old.leaving.items) × (departures.new.lost ≡ departures.old.lost) × (departures.new.names ≡ departures.old.names) }
 {
     connection.waiting.begin()?;
     connection.asks.clear();
@@ -87,7 +91,7 @@ fn begin<L, C: AsRawFd + Drop>(
 }
 
 /// Listens at an address, in place of the one before. What was open is closed.
-#[tactic(auto, using(crate::proofs::Tellings::ended_listen))]
+#[tactic(auto, using(crate::proofs::Tellings::ended_listen, crate::proofs::Comings::as_late))]
 pub(crate) fn listen<S: System>(
     system: &mut S,
     connection: &mut Connection<S::Listener, S::Stream>,
@@ -96,9 +100,10 @@ pub(crate) fn listen<S: System>(
 ) -> io::Result<()>
     ensures calls { IfListens address.now result (number_at S.Listener.raw_fd connection.new.listener) (S.calls system.old) (S.calls system.new) }
     ensures came { ConnectionCame S.Stream.raw_fd S.Listener.raw_fd (S.calls system.new) connection.new }
+    ensures later { Later (S.calls system.old) (S.calls system.new) }
     ensures fault { IfErr result (λ e. Ends None steps.Listen e (S.calls system.new)) }
     ensures aside { connection.new.waiting.arriving.items ≡ [] }
-    ensures leaving { (departures.new.leaving.items ≡ departures.old.leaving.items) × (departures.new.lost ≡ departures.old.lost) }
+    ensures leaving { (departures.new.leaving.items ≡ departures.old.leaving.items) × (departures.new.lost ≡ departures.old.lost) × (departures.new.names ≡ departures.old.names) }
 {
     connection.listener = None;
     connection.served = None;
@@ -142,6 +147,7 @@ fn go_on<S: System>(
     ensures later { Later (S.calls system.old) (S.calls system.new) }
     ensures fault { IfErr result (λ e. Ends (S.Listener.raw_fd listener.now) steps.Accept e (S.calls system.new)) }
     ensures bounded { Bounded waiting.old.arriving.items → Bounded waiting.new.arriving.items }
+    ensures changes { (first : List (Arriving S.Stream)) (start : Calls) → ReadsClock now start (S.calls system.old) → Changes first start waiting.old.arriving.items (S.calls system.old) → Changes first start waiting.new.arriving.items (S.calls system.new) }
 {
     let Some((first, others)) = found.split_first() else {
         return Ok(());
@@ -205,6 +211,7 @@ fn wait_once<S: System>(
     ensures later { Later (S.calls system.old) (S.calls system.new) }
     ensures fault { IfErr result (λ e. Ends (S.Listener.raw_fd listener.now) steps.Accept e (S.calls system.new)) }
     ensures bounded { Bounded waiting.old.arriving.items → Bounded waiting.new.arriving.items }
+    ensures changes { (first : List (Arriving S.Stream)) (start : Calls) → Changes first start waiting.old.arriving.items (S.calls system.old) → Changes first start waiting.new.arriving.items (S.calls system.new) }
 {
     let is_ready = waiting.has_ready(now);
     let Ok(arriving) = asked_of(listener, waiting, departures, asks) else {
@@ -234,6 +241,10 @@ fn advance<S: System>(
     ensures later { Later (S.calls system.old) (S.calls system.new) }
     ensures fault { (listener : Number) → IfErr result (λ e. Ends listener steps.Accept e (S.calls system.new)) }
     ensures within { Within departures.old.leaving.items → Within departures.new.leaving.items }
+    ensures timed { All (IsTimed (S.calls system.old)) departures.old.leaving.items → All (IsTimed (S.calls system.new)) departures.new.leaving.items }
+    ensures names { departures.new.names ≡ departures.old.names }
+    ensures clock { IfOk result (λ now. ReadsClock now (S.calls system.old) (S.calls system.new)) }
+    ensures pace { IfOk result (λ now. All (IsOnTime (S.calls system.old) (S.calls system.new)) departures.new.leaving.items) }
 {
     match system.monotonic() {
         Ok(now) => {
@@ -254,16 +265,9 @@ fn begun(until: Option<Duration>, every: Option<Duration>, now: Duration) -> Opt
 
 fn is_over(until: Option<Duration>, now: Duration) -> bool {
     match until {
-        Some(until) => now >= until,
+        Some(until) => has_passed(until, now),
         None => false,
     }
-}
-
-/// The error where nobody came in time.
-fn nobody() -> io::Error
-    ensures { raw_os_error result ≡ None }
-{
-    io::Error::new(ErrorKind::TimedOut, "nobody came in time")
 }
 
 /// What a web page is answered.
@@ -279,6 +283,9 @@ fn refuse<S: System>(
 )
     ensures later { Later (S.calls system.old) (S.calls system.new) }
     ensures within { Within departures.old.leaving.items → Within departures.new.leaving.items }
+    ensures timed { All (IsTimed (S.calls system.old)) departures.old.leaving.items → All (IsTimed (S.calls system.new)) departures.new.leaving.items }
+    ensures names { departures.new.names ≡ departures.old.names }
+    ensures pace { (start : Calls) → Later start (S.calls system.old) → All (IsOnTime start (S.calls system.old)) departures.old.leaving.items → All (IsOnTime start (S.calls system.new)) departures.new.leaving.items }
 {
     let Arriving { stream, .. } = arriving;
     if let Ok(bytes) = Vec::from_slice(alloc, FORBIDDEN) {
@@ -299,6 +306,12 @@ fn next<S: System>(
     ensures later { Later (S.calls system.old) (S.calls system.new) }
     ensures bounded { Bounded waiting.old.arriving.items → Bounded waiting.new.arriving.items }
     ensures within { Within departures.old.leaving.items → Within departures.new.leaving.items }
+    ensures changes { (first : List (Arriving S.Stream)) (start : Calls) → ReadsClock now start (S.calls system.old) → Changes first start waiting.old.arriving.items (S.calls system.old) → Changes first start waiting.new.arriving.items (S.calls system.new) }
+    ensures ready { IfSome result (λ a. is_ready now a ≡ true) }
+    ensures silent { All (λ a. is_silent now a ≡ false) waiting.new.arriving.items }
+    ensures timed { All (IsTimed (S.calls system.old)) departures.old.leaving.items → All (IsTimed (S.calls system.new)) departures.new.leaving.items }
+    ensures names { departures.new.names ≡ departures.old.names }
+    ensures pace { (start : Calls) → Later start (S.calls system.old) → All (IsOnTime start (S.calls system.old)) departures.old.leaving.items → All (IsOnTime start (S.calls system.new)) departures.new.leaving.items }
 {
     let Some(ready) = waiting.ready(now) else {
         return None;
@@ -310,7 +323,8 @@ fn next<S: System>(
     None
 }
 
-/// Waits for a connection whose turn may come, for so long where a time is given. Meanwhile what leaves goes on.
+/// Waits for a connection whose turn may come, for so long where a time is given: none where nobody came by then. Meanwhile
+/// what leaves goes on.
 #[tactic(auto, using(crate::proofs::Comings::as_late, crate::proofs::Comings::later_still, crate::proofs::Comings::have_still))]
 fn wait<S: System>(
     system: &mut S,
@@ -319,13 +333,18 @@ fn wait<S: System>(
     listener: &S::Listener,
     asks: &mut Vec<pollfd>,
     every: Option<Duration>,
-) -> io::Result<Arriving<S::Stream>>
+) -> io::Result<Option<Arriving<S::Stream>>>
     ensures came { HaveCome S.Stream.raw_fd (S.Listener.raw_fd listener.now) (S.calls system.old) waiting.old.arriving.items → HaveCome S.Stream.raw_fd (S.Listener.raw_fd listener.now) (S.calls system.new) waiting.new.arriving.items }
     ensures later { Later (S.calls system.old) (S.calls system.new) }
-    ensures taken { HaveCome S.Stream.raw_fd (S.Listener.raw_fd listener.now) (S.calls system.old) waiting.old.arriving.items → IfOk result (HasCome S.Stream.raw_fd (S.Listener.raw_fd listener.now) (S.calls system.new)) }
+    ensures taken { HaveCome S.Stream.raw_fd (S.Listener.raw_fd listener.now) (S.calls system.old) waiting.old.arriving.items → IfOk result (λ taken. IfSome taken (HasCome S.Stream.raw_fd (S.Listener.raw_fd listener.now) (S.calls system.new))) }
     ensures fault { IfErr result (λ e. Ends (S.Listener.raw_fd listener.now) steps.Accept e (S.calls system.new)) }
     ensures bounded { Bounded waiting.old.arriving.items → Bounded waiting.new.arriving.items }
     ensures within { Within departures.old.leaving.items → Within departures.new.leaving.items }
+    ensures changes { (first : List (Arriving S.Stream)) (start : Calls) → Changes first start waiting.old.arriving.items (S.calls system.old) → Changes first start waiting.new.arriving.items (S.calls system.new) }
+    ensures in_time { IfOk result (λ taken. IfSome taken (λ a. IsInTime a waiting.new.arriving.items (S.calls system.old) (S.calls system.new))) }
+    ensures timed { All (IsTimed (S.calls system.old)) departures.old.leaving.items → All (IsTimed (S.calls system.new)) departures.new.leaving.items }
+    ensures names { departures.new.names ≡ departures.old.names }
+    ensures pace { IfOk result (λ taken. IfSome taken (λ a. All (IsOnTime (S.calls system.old) (S.calls system.new)) departures.new.leaving.items)) }
 {
     let mut until = None;
     'waits: for _ in 0..u64::MAX {
@@ -338,13 +357,39 @@ fn wait<S: System>(
             return Err(fault);
         }
         if let Some(ready) = next(system, waiting, departures, now) {
-            return Ok(ready);
+            return Ok(Some(ready));
         }
         if is_over(until, now) {
-            return Err(nobody());
+            return Ok(None);
         }
     }
-    Err(nobody())
+    Ok(None)
+}
+
+/// What goes out before an answer: the rest of an interim line of which the system took a beginning.
+fn rest_of_line(alloc: Global, said: usize) -> Result<Vec<u8>, AllocError>
+    ensures { IfOk result (λ rest. rest.items ≡ begun_of said) }
+{
+    let line = interim();
+    if said == 0 || said >= line.len() {
+        return Ok(Vec::new(alloc));
+    }
+    Vec::from_slice(alloc, &line[said..])
+}
+
+/// One whose turn comes. Where there is no memory for the rest of its interim line, nothing more is sent on it.
+fn begin_serving<C: Drop>(alloc: Global, arriving: Arriving<C>) -> Served<C>
+    ensures same { (result.arriving ≡ arriving) × (result.given ≡ 0) }
+    ensures line { result.is_cut ≡ false → result.unsent.items ≡ begun_of arriving.said }
+{
+    let rest = rest_of_line(alloc, arriving.said);
+    let is_cut = rest.is_err();
+    Served {
+        arriving,
+        given: 0,
+        unsent: rest.unwrap_or(Vec::new(alloc)),
+        is_cut,
+    }
 }
 
 /// Waits for a connection whose turn may come: its whole request is there, it ended or failed, or its time is over. One that
@@ -357,9 +402,15 @@ pub(crate) fn take<S: System>(
 ) -> io::Result<()>
     ensures shut { connection.old.listener ≡ None → IsErr result }
     ensures came { ConnectionCame S.Stream.raw_fd S.Listener.raw_fd (S.calls system.old) connection.old → ConnectionCame S.Stream.raw_fd S.Listener.raw_fd (S.calls system.new) connection.new }
+    ensures later { Later (S.calls system.old) (S.calls system.new) }
     ensures fault { IfErr result (λ e. Ends (number_at S.Listener.raw_fd connection.old.listener) steps.Accept e (S.calls system.new)) }
     ensures bounded { Bounded connection.old.waiting.arriving.items → Bounded connection.new.waiting.arriving.items }
     ensures within { Within departures.old.leaving.items → Within departures.new.leaving.items }
+    ensures changes { Changes connection.old.waiting.arriving.items (S.calls system.old) connection.new.waiting.arriving.items (S.calls system.new) }
+    ensures in_time { IfInTime result connection.new.served connection.new.waiting.arriving.items (S.calls system.old) (S.calls system.new) }
+    ensures timed { All (IsTimed (S.calls system.old)) departures.old.leaving.items → All (IsTimed (S.calls system.new)) departures.new.leaving.items }
+    ensures names { departures.new.names ≡ departures.old.names }
+    ensures pace { IfAllOnTime result connection.new.served departures.new.leaving.items (S.calls system.old) (S.calls system.new) }
 {
     close(system, connection, departures);
     let Some(listener) = &connection.listener else {
@@ -373,16 +424,11 @@ pub(crate) fn take<S: System>(
         &mut connection.asks,
         every,
     ) {
-        Ok(arriving) => {
-            connection.served = Some(Served {
-                arriving,
-                given: 0,
-                unsent: Vec::new(connection.alloc),
-                is_cut: false,
-            });
+        Ok(Some(arriving)) => {
+            connection.served = Some(begin_serving(connection.alloc, arriving));
             Ok(())
         }
-        Err(fault) if every.is_some() && fault.kind() == ErrorKind::TimedOut => Ok(()),
+        Ok(None) => Ok(()),
         Err(fault) => Err(fault),
     }
 }
@@ -521,6 +567,8 @@ pub(crate) fn send<S: System>(
 fn end<S: System>(system: &mut S, departures: &mut Departures<S::Stream>, served: Served<S::Stream>)
     ensures later { Later (S.calls system.old) (S.calls system.new) }
     ensures within { Within departures.old.leaving.items → Within departures.new.leaving.items }
+    ensures timed { All (IsTimed (S.calls system.old)) departures.old.leaving.items → All (IsTimed (S.calls system.new)) departures.new.leaving.items }
+    ensures names { departures.new.names ≡ departures.old.names }
 {
     let Served {
         arriving,
@@ -546,6 +594,8 @@ pub(crate) fn close<S: System>(
     ensures same { (connection.new.listener ≡ connection.old.listener) × (connection.new.waiting ≡ connection.old.waiting) }
     ensures later { Later (S.calls system.old) (S.calls system.new) }
     ensures within { Within departures.old.leaving.items → Within departures.new.leaving.items }
+    ensures timed { All (IsTimed (S.calls system.old)) departures.old.leaving.items → All (IsTimed (S.calls system.new)) departures.new.leaving.items }
+    ensures names { departures.new.names ≡ departures.old.names }
 {
     if let Some(served) = connection.served.take() {
         end(system, departures, served);
@@ -558,7 +608,9 @@ fn wait_leaving<S: System>(
     asks: &mut Vec<pollfd>,
     departures: &Departures<S::Stream>,
     now: Duration,
-) {
+)
+    ensures { Later (S.calls system.old) (S.calls system.new) }
+{
     asks.clear();
     match departures.asks(asks) {
         Ok(()) => look(
@@ -571,18 +623,24 @@ fn wait_leaving<S: System>(
 }
 
 /// Lets go out what still leaves, each until its own time is over.
+#[tactic(auto, using(crate::proofs::Comings::as_late, crate::proofs::Comings::later_still))]
 pub(crate) fn leave<S: System>(
     system: &mut S,
     asks: &mut Vec<pollfd>,
     departures: &mut Departures<S::Stream>,
-) -> io::Result<()> {
-    for _ in 0..u64::MAX {
-        let now = system.monotonic()?;
-        departures::advance(system, departures, now);
+)
+    ensures later { Later (S.calls system.old) (S.calls system.new) }
+    ensures within { Within departures.old.leaving.items → Within departures.new.leaving.items }
+    ensures timed { All (IsTimed (S.calls system.old)) departures.old.leaving.items → All (IsTimed (S.calls system.new)) departures.new.leaving.items }
+    ensures names { departures.new.names ≡ departures.old.names }
+{
+    'waits: for _ in 0..u64::MAX {
+        let Ok(now) = advance(system, departures) else {
+            return;
+        };
         if departures.is_empty() {
-            return Ok(());
+            return;
         }
         wait_leaving(system, asks, departures, now);
     }
-    Ok(())
 }

@@ -6,6 +6,7 @@ ghost use Rattle.std.specs.IoError.{raw_os_error};
 ghost use Rattle.atx_sites.specs.Files.{is_lost, number_of};
 ghost use Rattle.atx_sites.specs.FileCalls.{IfOpened, IfTaken, IfAlone, IfSynced, Sized, Reads, Writes, Syncs, Raises};
 ghost use Rattle.atx_sites.specs.Failures.{Ends};
+ghost use Rattle.atx_sites.specs.LinkCalls.{Later};
 ghost use Rattle.atx_sites.specs.declared.troubles.Step.TheVariants as steps;
 
 use crate::troubles::{Step, Trouble};
@@ -30,9 +31,10 @@ fn unopened() -> io::Error
 
 /// Opens a file for reading and writing, and makes it where it isn't there. What is meant for a standard stream that was
 /// closed doesn't land in it.
-#[tactic(auto, using(crate::proofs::Tellings::ended_open, crate::proofs::Tellings::ended_low))]
+#[tactic(auto, using(crate::proofs::Comings::as_late, crate::proofs::Comings::later_by, crate::proofs::Tellings::ended_open, crate::proofs::Tellings::ended_low))]
 fn open<S: System>(system: &mut S, name: &str) -> io::Result<S::File>
     ensures calls { IfOpened S.File.raw_fd name.now result (S.calls system.old) (S.calls system.new) }
+    ensures later { Later (S.calls system.old) (S.calls system.new) }
     ensures fault { IfErr result (λ e. Ends None (steps.Open 0) e (S.calls system.new)) }
 {
     let file = system.open(name)?;
@@ -45,9 +47,10 @@ fn open<S: System>(system: &mut S, name: &str) -> io::Result<S::File>
 
 /// Takes a regular file that no other process holds: locks it, makes it last, and has it read from the disk from now on, as
 /// an earlier process may have had a sync that failed.
-#[tactic(auto, using(crate::proofs::Tellings::ended_kind, crate::proofs::Tellings::ended_lock, crate::proofs::Tellings::ended_settle, crate::proofs::Tellings::ended_forget))]
+#[tactic(auto, using(crate::proofs::Comings::as_late, crate::proofs::Comings::later_by, crate::proofs::Tellings::ended_kind, crate::proofs::Tellings::ended_lock, crate::proofs::Tellings::ended_settle, crate::proofs::Tellings::ended_forget))]
 fn take<S: System>(system: &mut S, file: &S::File, which: u8) -> Result<(), Trouble>
     ensures calls { IfTaken (S.File.raw_fd file.now) result (S.calls system.old) (S.calls system.new) }
+    ensures later { Later (S.calls system.old) (S.calls system.new) }
     ensures fault { IfErr result (λ t. Ends None t.step t.fault (S.calls system.new)) }
 {
     let kind = Step::Kind(which);
@@ -69,6 +72,7 @@ fn take<S: System>(system: &mut S, file: &S::File, which: u8) -> Result<(), Trou
 }
 
 /// Opens a regular file that no other process holds.
+#[tactic(auto, using(crate::proofs::Comings::later_still))]
 pub(crate) fn open_alone<S: System>(
     system: &mut S,
     name: &str,
@@ -76,6 +80,7 @@ pub(crate) fn open_alone<S: System>(
 ) -> Result<Held<S::File>, Trouble>
     ensures sure { IfOk result (λ h. h.is_lost ≡ false) }
     ensures calls { IfAlone S.File.raw_fd name.now result (S.calls system.old) (S.calls system.new) }
+    ensures later { Later (S.calls system.old) (S.calls system.new) }
     ensures fault { IfErr result (λ t. Ends None t.step t.fault (S.calls system.new)) }
 {
     let file = match open(system, name) {
@@ -92,9 +97,10 @@ pub(crate) fn open_alone<S: System>(
 }
 
 /// Makes last which files a folder has.
-#[tactic(auto, using(crate::proofs::Tellings::ended_name, crate::proofs::Tellings::ended_folder))]
+#[tactic(auto, using(crate::proofs::Comings::as_late, crate::proofs::Comings::later_by, crate::proofs::Tellings::ended_name, crate::proofs::Tellings::ended_folder))]
 pub(crate) fn sync_folder<S: System>(system: &mut S, name: &str) -> Result<(), Trouble>
     ensures calls { IfSynced name.now result (S.calls system.old) (S.calls system.new) }
+    ensures later { Later (S.calls system.old) (S.calls system.new) }
     ensures fault { IfErr result (λ t. Ends None t.step t.fault (S.calls system.new)) }
 {
     let folder = match system.open_folder(name) {

@@ -1,9 +1,21 @@
+use Rattle.std.proofs.Common.{refl}
 use Rattle.atx_sites.proofs.Afterwards.{answers_later}
 use Rattle.atx_sites.proofs.Comings.{as_late}
+use Rattle.atx_sites.proofs.DepartureTimes.{timed_answered}
 use Rattle.atx_sites.proofs.connection.end.Goals as goal
 
-pub returns-then-is_cut : goal.returns-then-is_cut
-returns-then-is_cut g c = record { later = as_late _; within = λ h. h }
-
 pub returns : goal.returns
-returns g c = record { later = answers_later _ _ _ _ _ _ _ _ _ c.answer.ensures.answers.1; within = c.answer.ensures.within }
+returns g c = record {
+  later = answers_later _ _ _ _ _ _ _ _ _ c.answer.ensures.answers.1;
+  within = c.answer.ensures.within;
+  timed = λ h. timed_answered g.S.Stream.AsRawFd.raw_fd _ _ _ _ _ _ _ _ c.answer.ensures.answers.1 h;
+  names = c.answer.ensures.names;
+}
+
+pub returns-then-is_cut : goal.returns-then-is_cut
+returns-then-is_cut g c = record {
+  later = as_late _;
+  within = λ h. h;
+  timed = λ h. h;
+  names = refl;
+}
