@@ -6,6 +6,7 @@ pub mod Comings
 pub mod DepartureBounds
 pub mod DepartureLists
 pub mod DepartureTimes
+pub mod Endings
 pub mod FilePieces
 pub mod FilesLater
 pub mod Hearings

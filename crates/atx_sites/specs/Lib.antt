@@ -11,4 +11,5 @@ pub mod Machines
 pub mod Names
 pub mod Networks
 pub mod Resends
+pub mod Turns
 pub mod Waits

@@ -12,6 +12,7 @@ ghost use Rattle.atx_sites.specs.Waits.{Changes, IfAllOnTime, IfInTime, IsInTime
 ghost use Rattle.atx_sites.specs.declared.arriving.Arriving.{Arriving};
 ghost use Rattle.atx_sites.specs.declared.outgoing.Outgoing.{Outgoing};
 ghost use Rattle.atx_sites.specs.Failures.{Ends};
+ghost use Rattle.atx_sites.specs.Turns.{Ends as EndsTurn, EndsBy};
 ghost use Rattle.atx_sites.specs.declared.troubles.Step.TheVariants as steps;
 
 use crate::arriving::{Arriving, Rest, interim, read_on};
@@ -569,6 +570,7 @@ fn end<S: System>(system: &mut S, departures: &mut Departures<S::Stream>, served
     ensures within { Within departures.old.leaving.items → Within departures.new.leaving.items }
     ensures timed { All (IsTimed (S.calls system.old)) departures.old.leaving.items → All (IsTimed (S.calls system.new)) departures.new.leaving.items }
     ensures names { departures.new.names ≡ departures.old.names }
+    ensures answers { EndsBy served.is_cut S.Stream.raw_fd served departures.old.leaving.items departures.old.lost (S.calls system.old) departures.new.leaving.items departures.new.lost (S.calls system.new) }
 {
     let Served {
         arriving,
@@ -596,6 +598,7 @@ pub(crate) fn close<S: System>(
     ensures within { Within departures.old.leaving.items → Within departures.new.leaving.items }
     ensures timed { All (IsTimed (S.calls system.old)) departures.old.leaving.items → All (IsTimed (S.calls system.new)) departures.new.leaving.items }
     ensures names { departures.new.names ≡ departures.old.names }
+    ensures answers { EndsTurn S.Stream.raw_fd connection.old.served departures.old.leaving.items departures.old.lost (S.calls system.old) departures.new.leaving.items departures.new.lost (S.calls system.new) }
 {
     if let Some(served) = connection.served.take() {
         end(system, departures, served);
