@@ -5,7 +5,7 @@ use Rattle.site_model.specs.Counts.{capped}
 use Rattle.system_calls.specs.Calls.{Calls, Number}
 use Rattle.atx_sites.specs.Departures.{Answers}
 use Rattle.atx_sites.specs.Disks.{Tallied}
-use Rattle.atx_sites.specs.Turns.{Ends, EndsBy}
+use Rattle.atx_sites.specs.Turns.{EndsBy, EndsTurn}
 use Rattle.atx_sites.specs.declared.connection.Served.{Served}
 use Rattle.atx_sites.specs.declared.outgoing.Outgoing.{Outgoing}
 
@@ -22,8 +22,8 @@ module _ {C : Type 0} (number : C → Number) (served : Served C) where
 
 module _ {C : Type 0} (number : C → Number) (before after : List (Outgoing C)) (lost lost_now : ℕ) (old new : Calls) where
   pub ended_some : (held : Option (Served C)) (served : Served C) → held ≡ Some served → EndsBy served.is_cut number served before lost old after lost_now new
-      → Ends number held before lost old after lost_now new
-  ended_some held served e h = subst (λ k. Ends number k before lost old after lost_now new) (sym e) h
+      → EndsTurn number held before lost old after lost_now new
+  ended_some held served e h = subst (λ k. EndsTurn number k before lost old after lost_now new) (sym e) h
 
-  pub ended_none : (held : Option (Served C)) → held ≡ None → (after ≡ before) × (lost_now ≡ lost) × (new ≡ old) → Ends number held before lost old after lost_now new
-  ended_none held e h = subst (λ k. Ends number k before lost old after lost_now new) (sym e) h
+  pub ended_none : (held : Option (Served C)) → held ≡ None → (after ≡ before) × (lost_now ≡ lost) × (new ≡ old) → EndsTurn number held before lost old after lost_now new
+  ended_none held e h = subst (λ k. EndsTurn number k before lost old after lost_now new) (sym e) h

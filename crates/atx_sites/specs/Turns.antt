@@ -15,6 +15,6 @@ EndsBy false number served before lost old after lost_now new =
     (result : Result (Unit {0}) Error) × Answers number served.arriving.stream served.unsent 0 before old result after new × Tallied lost lost_now result
 EndsBy true number served before lost old after lost_now new = (after ≡ before) × (lost_now ≡ capped (lost + 1)) × (new ≡ old)
 
-abbrev pub Ends : {C : Type 0} → (C → Number) → Option (Served C) → List (Outgoing C) → ℕ → Calls → List (Outgoing C) → ℕ → Calls → Type 0
-Ends number (Some served) before lost old after lost_now new = EndsBy served.is_cut number served before lost old after lost_now new
-Ends number None before lost old after lost_now new = (after ≡ before) × (lost_now ≡ lost) × (new ≡ old)
+abbrev pub EndsTurn : {C : Type 0} → (C → Number) → Option (Served C) → List (Outgoing C) → ℕ → Calls → List (Outgoing C) → ℕ → Calls → Type 0
+EndsTurn number (Some served) before lost old after lost_now new = EndsBy served.is_cut number served before lost old after lost_now new
+EndsTurn number None before lost old after lost_now new = (after ≡ before) × (lost_now ≡ lost) × (new ≡ old)

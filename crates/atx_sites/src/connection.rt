@@ -12,7 +12,7 @@ ghost use Rattle.atx_sites.specs.Waits.{Changes, IfAllOnTime, IfInTime, IsInTime
 ghost use Rattle.atx_sites.specs.declared.arriving.Arriving.{Arriving};
 ghost use Rattle.atx_sites.specs.declared.outgoing.Outgoing.{Outgoing};
 ghost use Rattle.atx_sites.specs.Failures.{Ends};
-ghost use Rattle.atx_sites.specs.Turns.{Ends as EndsTurn, EndsBy};
+ghost use Rattle.atx_sites.specs.Turns.{EndsBy, EndsTurn};
 ghost use Rattle.atx_sites.specs.declared.troubles.Step.TheVariants as steps;
 
 use crate::arriving::{Arriving, Rest, interim, read_on};
@@ -92,7 +92,7 @@ fn begin<L, C: AsRawFd + Drop>(
 }
 
 /// Listens at an address, in place of the one before. What was open is closed.
-#[tactic(auto, using(crate::proofs::Tellings::ended_listen, crate::proofs::Comings::as_late))]
+#[tactic(auto, using(crate::proofs::Tellings::ended_listen, crate::proofs::Tellings::no_memory, crate::proofs::Comings::as_late))]
 pub(crate) fn listen<S: System>(
     system: &mut S,
     connection: &mut Connection<S::Listener, S::Stream>,
@@ -395,6 +395,7 @@ fn begin_serving<C: Drop>(alloc: Global, arriving: Arriving<C>) -> Served<C>
 
 /// Waits for a connection whose turn may come: its whole request is there, it ended or failed, or its time is over. One that
 /// is still open is closed. Where none comes for as long as `every` says, none is open behind it.
+#[tactic(auto, using(crate::proofs::Tellings::unlistening))]
 pub(crate) fn take<S: System>(
     system: &mut S,
     connection: &mut Connection<S::Listener, S::Stream>,

@@ -44,7 +44,7 @@ impl<F> Disk<F> {
 }
 
 /// Both files of a journal. Their folder is made last too, as they may be new in it.
-#[tactic(auto, using(crate::proofs::Comings::as_late, crate::proofs::Comings::later_still))]
+#[tactic(auto, using(crate::proofs::Comings::as_late, crate::proofs::Comings::later_still, crate::proofs::Tellings::long_name))]
 fn open_both<S: System>(
     system: &mut S,
     journal: &str,

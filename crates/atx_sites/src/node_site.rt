@@ -9,7 +9,7 @@ ghost use Rattle.site_model.specs.declared.site.Taken.TheVariants.{Opened};
 ghost use Rattle.atx_sites.specs.Arrivals.{Gives, KeepsOn};
 ghost use Rattle.atx_sites.specs.Machines.{Holds};
 ghost use Rattle.atx_sites.specs.Resends.{PostsOrHolds, TellsTime};
-ghost use Rattle.atx_sites.specs.Turns.{Ends};
+ghost use Rattle.atx_sites.specs.Turns.{EndsTurn};
 ghost use Rattle.atx_sites.specs.Waits.{Changes, IfAllOnTime, IfInTime};
 ghost use Rattle.atx_sites.specs.Disks.{Tallied, file_at, other_at};
 ghost use Rattle.atx_sites.specs.FileCalls.{Raises, Reads, Sized, Syncs, Writes};
@@ -338,7 +338,7 @@ impl<S: System + Drop> Site for NodeSite<S> {
     fn close(&mut self)
         ensures shut { self.new.connection.served ≡ None }
         ensures same { (self.new.connection.listener ≡ self.old.connection.listener) × (self.new.disk ≡ self.old.disk) }
-        ensures answers { Ends S.Stream.raw_fd self.old.connection.served self.old.departures.leaving.items self.old.departures.lost (S.calls self.old.system) self.new.departures.leaving.items self.new.departures.lost (S.calls self.new.system) }
+        ensures answers { EndsTurn S.Stream.raw_fd self.old.connection.served self.old.departures.leaving.items self.old.departures.lost (S.calls self.old.system) self.new.departures.leaving.items self.new.departures.lost (S.calls self.new.system) }
         ensures call { Closes (told_with self.old.disk self.old.accept self.old.receive self.old.link self.old.taken self.old.attached.names) (told_with self.new.disk self.new.accept self.new.receive self.new.link self.new.taken self.new.attached.names) }
         ensures aside { self.new.connection.waiting ≡ self.old.connection.waiting }
         ensures holds { Holds S.Stream.raw_fd S.Listener.raw_fd (S.calls self.old.system) self.old.connection self.old.departures → Holds S.Stream.raw_fd S.Listener.raw_fd (S.calls self.new.system) self.new.connection self.new.departures }
