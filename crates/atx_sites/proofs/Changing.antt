@@ -10,7 +10,7 @@ use Rattle.system_calls.specs.Calls.{Answer, Calls, Number, then}
 use Rattle.system_calls.specs.Calls.Call.{Monotonic}
 use Rattle.atx_sites.specs.Arrivals.{Bounded, HasCome, HaveCome, Stays, is_coming, is_ready, is_silent, size_of}
 use Rattle.atx_sites.specs.LinkCalls.{HasRead, Later, ReadsClock}
-use Rattle.atx_sites.specs.LinkCalls.Later.{none as no_more, more}
+use Rattle.atx_sites.specs.LinkCalls.Later.{none as no_more}
 use Rattle.atx_sites.specs.Waits.{Changes, HasTen, IsInTime, IsTimed}
 use Rattle.atx_sites.specs.Waits.Changes.{none, later, read, silent, turn, crowded, heavy, came}
 use Rattle.atx_sites.specs.declared.arriving.Arriving.{Arriving}

@@ -1,14 +1,14 @@
 -- How many connections leave, to whom, and with how many bytes.
-use Rattle.std.proofs.Common.{ℕ, Bool, List, Option, Result, Some, true, false, zero, suc, cond, not, [], ◌∷◌, ◌++◌, ◌≡◌, ◌+◌, ◌<◌, ◌≤◌, ◌∙◌, refl, sym, ap, subst, inl, inr, length, take, get_or, arith}
+use Rattle.std.proofs.Common.{ℕ, Bool, List, Option, Result, Some, true, false, zero, suc, cond, not, [], ◌∷◌, ◌++◌, ◌≡◌, ◌+◌, ◌<◌, ◌≤◌, ◌∙◌, refl, sym, ap, subst, inl, inr, length, arith}
 use Rattle.std.specs.Prelude.{filter, slice_get}
-use Rattle.std.specs.List.{count_by, remove, sum_by}
+use Rattle.std.specs.List.{remove, sum_by}
 use Rattle.std.specs.declared.net.SocketAddr.{SocketAddr}
 use Rattle.std.specs.declared.time.Duration.{Duration}
 use Rattle.std.proofs.lemmas.List.{length-append}
 use Rattle.std.proofs.lemmas.List.Sums.{count_by-le-length, length-filter, sum_by-append, sum_by-cons}
-use Rattle.std.proofs.lemmas.List.Filters.{length-filter_more, sum_by-filter_both}
+use Rattle.std.proofs.lemmas.List.Filters.{sum_by-filter_both}
 use Rattle.system_calls.specs.Calls.{Calls, Number}
-use Rattle.atx_sites.specs.Departures.{Advances, HasRoom, HasShare, IsPart, Joins, Starts, Tests, Went, Within, host_of, is_over, number_to, weight}
+use Rattle.atx_sites.specs.Departures.{Advances, IsPart, Joins, Starts, Tests, Within, host_of, is_over, number_to, weight}
 use Rattle.atx_sites.specs.Departures.Advances.{none as nothing, next as behind}
 use Rattle.atx_sites.specs.Departures.IsPart.{none as all_there, less}
 use Rattle.atx_sites.specs.declared.outgoing.Outgoing.{Outgoing}

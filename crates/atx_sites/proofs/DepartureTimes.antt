@@ -1,5 +1,5 @@
 -- Until when connections leave.
-use Rattle.std.proofs.Common.{ℕ, suc, List, Bool, Option, Result, Ok, Err, Some, Vec, true, false, [], ◌∷◌, ◌++◌, ◌≡◌, ◌≤◌, ◌<◌, ◌+◌, ◌∙◌, not, refl, sym, ap, subst, inl, inr, take, drop, arith}
+use Rattle.std.proofs.Common.{ℕ, suc, List, Result, Some, Vec, true, false, ◌≡◌, ◌≤◌, ◌+◌, ◌∙◌, not, refl, sym, subst, inl, inr, take, drop, arith}
 use Rattle.std.specs.Prelude.{All, filter}
 use Rattle.std.specs.Duration.{as_nanos}
 use Rattle.std.specs.declared.alloc.Global.{Global}

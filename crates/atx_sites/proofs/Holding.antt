@@ -1,15 +1,13 @@
 -- What holds of a machine, from call to call.
-use Rattle.std.proofs.Common.{ℕ, List, Bool, Option, Result, Ok, Err, Some, None, true, false, [], ◌≡◌, ◌≤◌, ap, inl, inr, refl, subst, sym, arith}
+use Rattle.std.proofs.Common.{ℕ, List, Bool, Option, Result, Ok, Err, Some, None, true, false, [], ◌≡◌, ap, inl, inr, refl, subst, sym}
 use Rattle.std.specs.Prelude.{All}
-use Rattle.std.specs.declared.time.Duration.{Duration}
 use Rattle.std.proofs.lemmas.List.Elements.{All-nil}
 use Rattle.resend_delays.specs.declared.delays.Delays.{Delays}
-use Rattle.system_calls.specs.Calls.{Answer, Calls, Number, then}
-use Rattle.system_calls.specs.Calls.Call.{Monotonic}
+use Rattle.system_calls.specs.Calls.{Calls, Number}
 use Rattle.atx_sites.specs.Arrivals.{Bounded, ConnectionCame, HasCome, Keeps, KeepsOn, KeptOn, ServedCame}
 use Rattle.atx_sites.specs.Departures.{Within}
 use Rattle.atx_sites.specs.Departures.{IsTimed as LeavesInTime}
-use Rattle.atx_sites.specs.LinkCalls.{Came, Later, Sending, number_at}
+use Rattle.atx_sites.specs.LinkCalls.{Later, Sending, number_at}
 use Rattle.atx_sites.specs.LinkCalls.Later.{none, more}
 use Rattle.atx_sites.specs.LinkCalls.Sending.{none as unsent, took, failed}
 use Rattle.atx_sites.specs.Machines.{Holds}
@@ -24,7 +22,7 @@ use Rattle.atx_sites.specs.declared.resolved_names.ResolvedNames.{ResolvedNames}
 use Rattle.atx_sites.specs.declared.waiting.Waiting.{Waiting}
 use Rattle.atx_sites.proofs.Bounds.{bounded_none}
 use Rattle.atx_sites.proofs.Changing.{all_timed_later, timed_changed}
-use Rattle.atx_sites.proofs.Comings.{came_closed, came_none, have_still, later_still, none_came, still_came}
+use Rattle.atx_sites.proofs.Comings.{came_closed, came_none, have_still, none_came, still_came}
 use Rattle.atx_sites.proofs.DepartureBounds.{within_none}
 use Rattle.atx_sites.proofs.DepartureTimes.{all_timed_later as all_leave_later}
 use Rattle.atx_sites.proofs.NamesKept.{still_kept}

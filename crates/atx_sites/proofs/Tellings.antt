@@ -1,5 +1,5 @@
 -- What is told of a call that failed.
-use Rattle.std.proofs.Common.{ℕ, false, zero, suc, List, Option, None, Some, Result, Ok, Err, ◌≡◌, ◌∙◌, ap, inl, inr, refl, subst, sym, IfOk}
+use Rattle.std.proofs.Common.{ℕ, false, zero, suc, List, Option, None, Result, Ok, Err, ◌≡◌, ◌∙◌, ap, inl, inr, refl, subst, sym, IfOk}
 use Rattle.std.specs.Prelude.{IfErr}
 use Rattle.std.specs.IoError.{error_kind, raw_os_error}
 use Rattle.std.specs.declared.io.ErrorKind.TheVariants as kinds

@@ -1,9 +1,9 @@
 -- What is said of a connection that is served stands also where a failure is counted.
-use Rattle.std.proofs.Common.{ℕ, List, Bool, Option, Result, Ok, Err, None, Some, ◌≡◌, true, false, inl, inr, refl, sym, subst, IfOk}
+use Rattle.std.proofs.Common.{ℕ, List, Bool, Option, Result, Ok, Err, None, Some, ◌≡◌, true, false, refl, sym, subst, IfOk}
 use Rattle.site_model.specs.declared.source.Failed.{Failed}
 use Rattle.system_calls.specs.Calls.{Answer, Calls, Number}
 use Rattle.atx_sites.specs.Arrivals.{Gives, KeepsOn, KeptOn}
-use Rattle.atx_sites.specs.Departures.{Joins, Posts, Starts}
+use Rattle.atx_sites.specs.Departures.{Posts}
 use Rattle.atx_sites.specs.Disks.{Tallied}
 use Rattle.atx_sites.specs.Waits.{IfAllOnTime, IfInTime}
 use Rattle.atx_sites.specs.declared.arriving.Arriving.{Arriving}

@@ -44,12 +44,12 @@ pub returns-in-Ok-Some-clause-names : goal.returns-in-Ok-Some-clause-names
 returns-in-Ok-Some-clause-names g c = c.wait.ensures.names ∙ c.close.ensures.names
 
 pub returns-in-Ok-Some-clause-in_time : goal.returns-in-Ok-Some-clause-in_time
-returns-in-Ok-Some-clause-in_time g c = in_time_of c.in-Ok-Some.arriving _ _ _ _ c.begin_serving.ensures.same.0 
+returns-in-Ok-Some-clause-in_time g c = in_time_of c.in-Ok-Some.arriving _ _ _ _ c.begin_serving.ensures.same.0
     (in_time_from c.in-Ok-Some.arriving _ _ _ _ c.close.ensures.later
     (if_some (λ (a : Arriving g.row.S-Stream.Denot). IsInTime a c.wait.new.waiting.arriving.items (g.S.System.calls c.close.new.system) (g.S.System.calls c.wait.new.system)) _ c.in-Ok-Some.arriving c.in-Ok-Some.ensures.in_time c.in-Ok-Some.field-0-is))
 
 pub returns-in-Ok-Some-clause-pace : goal.returns-in-Ok-Some-clause-pace
-returns-in-Ok-Some-clause-pace g c = 
+returns-in-Ok-Some-clause-pace g c =
     all_on_time_from _ _ _ _ c.close.ensures.later
     (if_some (λ (a : Arriving g.row.S-Stream.Denot). All (IsOnTime (g.S.System.calls c.close.new.system) (g.S.System.calls c.wait.new.system)) c.wait.new.departures.leaving.items) _ c.in-Ok-Some.arriving c.in-Ok-Some.ensures.pace c.in-Ok-Some.field-0-is)
 

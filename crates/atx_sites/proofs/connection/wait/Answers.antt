@@ -142,6 +142,6 @@ returns-in-Some-clause-in_time g c = (
 )
 
 pub returns-in-Some-clause-pace : goal.returns-in-Some-clause-pace
-returns-in-Some-clause-pace g c = 
+returns-in-Some-clause-pace g c =
     c.in-Some.ensures.pace _ (later_still _ _ _ (later_still _ _ _ c.waits.invariant.1 c.advance.ensures.later) c.wait_once.ensures.later)
     (all_on_time_later _ _ _ _ (all_on_time_from _ _ _ _ c.waits.invariant.1 c.in-Ok.ensures.pace) c.wait_once.ensures.later)

@@ -1,5 +1,5 @@
 use Rattle.atx_sites.proofs.Comings.{came_new, have_still}
-use Rattle.std.proofs.Common.{◌∙◌, refl}
+use Rattle.std.proofs.Common.{◌∙◌}
 use Rattle.atx_sites.proofs.Changing.{changes_later, has_ten, read_behind}
 use Rattle.atx_sites.proofs.waiting.begin.Goals as goal
 

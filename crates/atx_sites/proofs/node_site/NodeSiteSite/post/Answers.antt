@@ -1,7 +1,7 @@
 use Rattle.atx_sites.proofs.Afterwards.{posts_later}
 use Rattle.atx_sites.proofs.DepartureTimes.{timed_posts}
 use Rattle.atx_sites.proofs.Holding.{held_later, holds_later, holds_posted}
-use Rattle.std.proofs.Common.{false, subst, ◌≡◌}
+use Rattle.std.proofs.Common.{subst}
 use Rattle.atx_sites.specs.Resends.{IfHeld}
 use Rattle.atx_sites.proofs.HeldPosts.{posted_later}
 use Rattle.atx_sites.proofs.Turns.{posts_counted}
