@@ -301,13 +301,13 @@ fn waits_on(alloc: Global, room: usize) -> Result<Option<usize>, AllocError> {
     site.leave();
     drop(site);
     match system.world().peers() {
-        [peer] if attached && served && sent => Ok(
-            if INTERIM.starts_with(peer.took()) || peer.took().starts_with(INTERIM) {
-                Some(peer.took().len())
-            } else {
-                None
-            },
-        ),
+        [peer] if attached && served && sent => Ok(if INTERIM.starts_with(peer.took())
+            || peer.took().starts_with(INTERIM)
+        {
+            Some(peer.took().len())
+        } else {
+            None
+        }),
         _ => Ok(None),
     }
 }
@@ -316,7 +316,10 @@ fn waits_on(alloc: Global, room: usize) -> Result<Option<usize>, AllocError> {
 fn a_line_that_was_begun_is_ended(rt: HostRuntime) -> Result<(), Fail> {
     let some = waits_on(rt.alloc(), 9)?;
     let all = waits_on(rt.alloc(), 1000)?;
-    assert!(rt; some == Some(9) && all == Some(INTERIM.len() + ANSWER.len()), "{some:?} {all:?}");
+    assert!(rt;
+        some == Some(9) && all == Some(INTERIM.len() + ANSWER.len()),
+        "{some:?} {all:?}"
+    );
     Ok(())
 }
 
