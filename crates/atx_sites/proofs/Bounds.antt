@@ -1,5 +1,5 @@
 -- How many connections are read aside, and how many bytes of them.
-use Rattle.std.proofs.Common.{ℕ, List, [], ◌∷◌, suc, ◌++◌, ◌≡◌, ◌≤◌, ◌<◌, ◌+◌, ◌-◌, ◌∙◌, refl, sym, ap, subst, slice_index_or, length, take, drop, length-append, arith}
+use Rattle.std.proofs.Common.{ℕ, List, [], ◌∷◌, suc, ◌++◌, ◌≡◌, ◌≤◌, ◌<◌, ◌+◌, ◌-◌, sym, ap, subst, slice_index_or, length, take, drop, length-append, arith}
 use Rattle.std.specs.List.{remove, sum_by}
 use lib.ListN.{set}
 use Rattle.std.proofs.lemmas.List.{length-set}

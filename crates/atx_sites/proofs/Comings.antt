@@ -1,5 +1,6 @@
 -- Connections that came, and what was read of them.
 use Rattle.std.proofs.Common.{append_assoc, append-nil, ℕ, List, Option, None, Some, Ok, [], ◌∷◌, suc, ◌≡◌, ◌<◌, ◌++◌, ◌∙◌, refl, sym, ap, subst, take, drop, length, slice_index_or}
+use Rattle.std.specs.Prelude.{IfSome}
 use Rattle.std.specs.List.{remove}
 use lib.ListN.{set}
 use Rattle.std.proofs.lemmas.List.Elements.{All-append, All-drop, All-nil, All-push, All-set, All-take, All-weaker}
@@ -15,6 +16,10 @@ use Rattle.atx_sites.specs.declared.arriving.Arriving.{Arriving}
 use Rattle.atx_sites.specs.declared.connection.Connection.{Connection}
 use Rattle.atx_sites.specs.declared.connection.Served.{Served}
 use Rattle.atx_sites.specs.declared.waiting.Waiting.{Waiting}
+
+pub if_some : {A : Type 0} (P : A → Type 0) (o : Option A) (x : A) → IfSome o P → o ≡ Some x → P x
+if_some P (Some y) x h e = let same : y ≡ x = cc in subst P same h
+if_some P None x h e = cc
 
 pub as_late : (old : Calls) → Later old old
 as_late old = none refl
@@ -80,6 +85,10 @@ module _ {L C : Type 0} (number : C → Number) (listens : L → Number) where
   came_none calls listener served shut = subst (ServedCame number listener calls) (sym shut) tt
 
   -- the one that was served is closed, and the others wait as before
+  pub served_still : (old new : Calls) (listener : Number) (served : Option (Served C)) → ServedCame number listener old served → Later old new → ServedCame number listener new served
+  served_still old new listener (Some s) h l = still_came listener (number s.arriving.stream) s.arriving.bytes.items old new h l
+  served_still old new listener None h l = tt
+
   pub came_closed : (old new : Calls) (before after : Connection L C) → after.served ≡ None → (after.listener ≡ before.listener) × (after.waiting ≡ before.waiting) → Later old new
       → ConnectionCame number listens old before → ConnectionCame number listens new after
   came_closed old new before after shut same l h = (
@@ -104,6 +113,10 @@ module _ {L C : Type 0} (number : C → Number) (listens : L → Number) where
   came_taken mid new closed taken listener is came h =
       subst (λ k. HasCome number (number_at listens k) new taken) (sym is)
       (came (subst (λ k. HaveCome number (number_at listens k) mid closed.waiting.arriving.items) is h.0))
+
+  -- of one that is served it is so as of the one that was taken
+  pub came_as : (calls : Calls) (listener : Number) (taken served : Arriving C) → served ≡ taken → HasCome number listener calls taken → HasCome number listener calls served
+  came_as calls listener taken served e h = subst (λ (a : Arriving C). HasCome number listener calls a) (sym e) h
 
 -- a connection that was accepted
 pub came_first : (listener stream : Number) (address : SocketAddr) (mid new : Calls) → new ≡ then (Accept listener (Ok (stream, address))) mid → Came listener stream [] new

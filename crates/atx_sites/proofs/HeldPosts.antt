@@ -1,5 +1,5 @@
 -- Posts that are held back, and those that aren't.
-use Rattle.std.proofs.Common.{ℕ, List, Bool, true, false, Result, ◌≡◌, ◌∙◌, refl, subst, inl, inr}
+use Rattle.std.proofs.Common.{ℕ, List, true, false, Result, ◌≡◌, ◌∙◌, refl, subst, inl, inr}
 use Rattle.std.specs.Prelude.{is_err}
 use Rattle.std.specs.declared.time.Duration.{Duration}
 use Rattle.resend_delays.specs.declared.delays.Delays.{Delays}

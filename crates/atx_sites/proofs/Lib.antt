@@ -1,10 +1,16 @@
 pub mod Afterwards
 pub mod Attachings
 pub mod Bounds
+pub mod Changing
 pub mod Comings
 pub mod DepartureBounds
 pub mod DepartureLists
+pub mod DepartureTimes
+pub mod Endings
 pub mod FilePieces
+pub mod FilesLater
+pub mod Hearings
+pub mod Holding
 pub mod Leavings
 pub mod NamesKept
 pub mod Pausing

@@ -1,6 +1,6 @@
 -- Names that are kept, with their addresses.
 use Rattle.std.proofs.Common.{append_assoc, append-nil, ℕ, List, Result, Vec, Global, Ok, Err, zero, suc, [], ◌∷◌, ◌++◌, ◌≡◌, ◌+◌, ◌<◌, ◌≤◌, ◌∙◌, refl, sym, ap, subst, inl, inr, length, take, drop, slice_index_or, arith}
-use Rattle.std.specs.Prelude.{All, IfOk, string_bytes}
+use Rattle.std.specs.Prelude.{IfOk, string_bytes}
 use Rattle.std.specs.List.{remove}
 use Rattle.std.specs.Duration.{as_nanos}
 use Rattle.std.specs.Net.ToAddrs.{HostAddrs, host_addrs}
@@ -9,13 +9,13 @@ use Rattle.std.specs.Iterator.Adapters.{take_count, take_source}
 use Rattle.std.proofs.lemmas.List.Elements.{All-append, All-drop, All-push, All-take, All-weaker}
 use Rattle.std.specs.declared.net.SocketAddr.{SocketAddr}
 use Rattle.std.specs.declared.time.Duration.{Duration}
-use Rattle.system_calls.specs.Calls.{Answer, Calls, then}
+use Rattle.system_calls.specs.Calls.{Calls, then}
 use Rattle.system_calls.specs.Calls.Call.{Monotonic, Resolve}
 use Rattle.atx_sites.specs.Departures.{Looks}
 use Rattle.atx_sites.specs.Departures.Looks.{none as no_look, clock, resolves}
 use Rattle.atx_sites.specs.LinkCalls.{Later}
 use Rattle.atx_sites.specs.LinkCalls.Later.{none, more}
-use Rattle.atx_sites.specs.Names.{Answered, AreAnswered, IsAnswered, IsFor, IsFresh, LookedUp, MayReach}
+use Rattle.atx_sites.specs.Names.{Answered, AreAnswered, IsAnswered, IsFor, LookedUp, MayReach}
 use Rattle.atx_sites.specs.Names.Answered.{read, beside}
 use Rattle.atx_sites.proofs.Comings.{later_still}
 use Rattle.atx_sites.specs.declared.resolved_names.Name.{Name}

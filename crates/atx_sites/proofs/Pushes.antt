@@ -5,7 +5,12 @@ use Rattle.site_model.specs.Counts.{capped}
 use Rattle.system_calls.specs.Calls.{Calls}
 use Rattle.atx_sites.specs.Departures.{Closes, IfOut}
 use Rattle.atx_sites.specs.Disks.{Tallied}
+use Rattle.atx_sites.specs.LinkCalls.{ReadsClock}
 use Rattle.atx_sites.specs.Names.{AreAnswered, IsAnswered}
+use Rattle.atx_sites.specs.Waits.{Changes, HasTen}
+use Rattle.atx_sites.specs.Waits.Changes.{came}
+use Rattle.atx_sites.specs.declared.arriving.Arriving.{Arriving}
+use Rattle.std.specs.declared.time.Duration.{Duration}
 use Rattle.atx_sites.specs.declared.resolved_names.Name.{Name}
 use Rattle.atx_sites.proofs.NamesKept.{kept_pushed}
 
@@ -40,3 +45,10 @@ pub kept_push : {E : Type 0} (r : Result (Unit {0}) E) (calls : Calls) (old new 
     → IsAnswered calls name → AreAnswered calls new
 kept_push (Ok x) calls old new name e h k = subst (AreAnswered calls) (sym e) (kept_pushed calls old name h k)
 kept_push (Err x) calls old new name e h k = subst (AreAnswered calls) (sym e) h
+
+-- a connection that is kept, or isn't
+module _ {C E : Type 0} (first : List (Arriving C)) (start : Calls) where
+  pub maybe_came : (result : Result (Unit {0}) E) (mid items : List (Arriving C)) (calls : Calls) (now : Duration) (a : Arriving C) → ReadsClock now start calls → HasTen now a
+      → items ≡ (if is_ok result then mid ++ a ∷ [] else mid) → Changes first start mid calls → Changes first start items calls
+  maybe_came (Ok x) mid items calls now a clock ten e h = came now a h clock ten e
+  maybe_came (Err x) mid items calls now a clock ten e h = subst (λ l. Changes first start l calls) (sym e) h

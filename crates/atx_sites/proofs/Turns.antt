@@ -1,10 +1,12 @@
 -- What is said of a connection that is served stands also where a failure is counted.
-use Rattle.std.proofs.Common.{ℕ, List, Bool, Option, Result, Ok, Err, None, Some, ◌≡◌, true, false, inl, inr, refl, sym, subst, IfOk}
+use Rattle.std.proofs.Common.{ℕ, List, Bool, Option, Result, Ok, Err, None, Some, ◌≡◌, true, false, refl, sym, subst, IfOk}
 use Rattle.site_model.specs.declared.source.Failed.{Failed}
 use Rattle.system_calls.specs.Calls.{Answer, Calls, Number}
 use Rattle.atx_sites.specs.Arrivals.{Gives, KeepsOn, KeptOn}
-use Rattle.atx_sites.specs.Departures.{Joins, Posts, Starts}
+use Rattle.atx_sites.specs.Departures.{Posts}
 use Rattle.atx_sites.specs.Disks.{Tallied}
+use Rattle.atx_sites.specs.Waits.{IfAllOnTime, IfInTime}
+use Rattle.atx_sites.specs.declared.arriving.Arriving.{Arriving}
 use Rattle.atx_sites.specs.declared.connection.Served.{Served}
 use Rattle.atx_sites.specs.declared.outgoing.Outgoing.{Outgoing}
 use Rattle.atx_sites.specs.declared.resolved_names.Name.{Name}
@@ -62,3 +64,16 @@ posts_counted {E = E} {F = F} number names host port bytes before old (Ok d) res
     subst (λ r. Posts number names host port bytes before old r after new) (sym (was d refl)) (posts_done E F number names host port bytes before old d after new h)
 posts_counted number names host port bytes before old (Err e) (Ok x) after new was ok h = cc
 posts_counted number names host port bytes before old (Err e) (Err f) after new was ok h = posts_failed number names host port bytes before old e f after new h
+
+-- of one that was taken
+pub in_time_counted : {T C : Type 0} (E : Type 0) (done : Unit {0}) (x : T) (answer : Answer (Unit {0})) (served : Option (Served C)) (others : List (Arriving C)) (old new : Calls) → answer ≡ Ok done
+    → IfInTime answer served others old new → IfInTime {E = E} (Ok x) served others old new
+in_time_counted E done x (Ok d) (Some s) others old new is h = h
+in_time_counted E done x (Ok d) None others old new is h = tt
+in_time_counted E done x (Err e) served others old new is h = cc
+
+pub on_time_counted : {T C : Type 0} (E : Type 0) (done : Unit {0}) (x : T) (answer : Answer (Unit {0})) (served : Option (Served C)) (leaving : List (Outgoing C)) (old new : Calls) → answer ≡ Ok done
+    → IfAllOnTime answer served leaving old new → IfAllOnTime {E = E} (Ok x) served leaving old new
+on_time_counted E done x (Ok d) (Some s) leaving old new is h = h
+on_time_counted E done x (Ok d) None leaving old new is h = tt
+on_time_counted E done x (Err e) served leaving old new is h = cc

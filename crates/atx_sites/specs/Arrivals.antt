@@ -1,11 +1,47 @@
 -- What is known of connections that are read aside.
-use Rattle.std.specs.Prelude.{ℕ, List, Bool, Option, Some, None, Result, Ok, Err, All, [], ◌++◌, ◌≡◌, ◌≤◌, ◌+◌, ◌⊎◌, true, false, length, take, drop, is_err}
+use Rattle.std.specs.Prelude.{ℕ, List, Bool, Option, Some, None, Result, Ok, Err, All, [], ◌++◌, ◌≡◌, ◌≤◌, ◌+◌, ◌⊎◌, ◌&&◌, ◌||◌, true, false, length, take, drop, is_err, not, nat_eq, nat_lt}
 use Rattle.std.specs.List.{sum_by}
 use Rattle.system_calls.specs.Calls.{Calls, Number}
 use Rattle.atx_sites.specs.LinkCalls.{Came, Sending, number_at}
+use Rattle.std.specs.declared.time.Duration.{Duration}
+use Rattle.atx_sites.specs.Deadlines.{has_passed}
 use Rattle.atx_sites.specs.declared.arriving.Arriving.{Arriving}
+use Rattle.atx_sites.specs.declared.arriving.Rest.{Rest}
+use Rattle.atx_sites.specs.declared.arriving.Rest.TheVariants as rests
+use Rattle.atx_sites.specs.declared.framing.Stage.{Stage}
+use Rattle.atx_sites.specs.declared.framing.Stage.TheVariants as stages
 use Rattle.atx_sites.specs.declared.connection.Connection.{Connection}
 use Rattle.atx_sites.specs.declared.connection.Served.{Served}
+
+abbrev pub is_more : Rest → Bool
+is_more rests.More = true
+is_more rest = false
+
+-- nothing more of its request is wanted: it is whole, or refused by what is there, or a web page's
+abbrev pub is_read : Stage → Bool
+is_read stages.Whole = true
+is_read stages.Foreign = true
+is_read stage = false
+
+-- more of it is to be read aside
+abbrev pub is_coming : {C : Type 0} → Arriving C → Bool
+is_coming arriving = is_more arriving.rest && not (is_read arriving.progress.stage) && nat_lt (length arriving.bytes.items) 131_072
+
+-- its turn may come: its request is in, it ended or failed, it has as many bytes as it may, or its time is over
+abbrev pub is_ready : {C : Type 0} → Duration → Arriving C → Bool
+is_ready now arriving = not (is_coming arriving) || has_passed now arriving.ends
+
+-- its time is over, and nothing came
+abbrev pub is_silent : {C : Type 0} → Duration → Arriving C → Bool
+is_silent now arriving = is_more arriving.rest && nat_eq (length arriving.bytes.items) 0 && has_passed now arriving.ends
+
+-- its client waits for the interim line, which has 25 bytes and of which some isn't out, and more of it is to come
+abbrev pub is_due : {C : Type 0} → Arriving C → Bool
+is_due arriving = arriving.progress.waits && nat_lt arriving.said 25 && is_coming arriving
+
+-- it is the same connection, and has the same time
+abbrev pub Stays : {C : Type 0} → Arriving C → Arriving C → Type 0
+Stays before after = (after.stream ≡ before.stream) × (after.ends ≡ before.ends)
 
 -- it came, and its bytes are those that its reads gave
 abbrev pub HasCome : {C : Type 0} → (C → Number) → Number → Calls → Arriving C → Type 0

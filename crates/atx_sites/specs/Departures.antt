@@ -1,12 +1,15 @@
 -- Which calls of the system are made on connections with bytes that leave.
 use Rattle.std.specs.Prelude.{ℕ, Bool, true, false, List, Option, Vec, Some, None, Result, Ok, Err, IsErr, [], ◌∷◌, ◌++◌, ◌≡◌, ◌⊎◌, ◌+◌, ◌≤◌, ◌<◌, length, drop, filter, is_err, not, slice_get, slice_index_or, slice_set, remove, Contains}
 use Rattle.std.specs.List.{sum_by}
+use Rattle.std.specs.Duration.{as_nanos}
 use Rattle.std.specs.declared.io.Error.{Error}
 use Rattle.std.specs.declared.net.SocketAddr.{SocketAddr}
 use Rattle.std.specs.declared.time.Duration.{Duration}
 use Rattle.std.specs.declared.alloc.Global.{Global}
 use Rattle.system_calls.specs.Calls.{Calls, Number, Answer, then}
 use Rattle.system_calls.specs.Calls.Call.{Connect, Monotonic, Read, Resolve, ShutDown, Write}
+use Rattle.atx_sites.specs.Deadlines.{has_passed}
+use Rattle.atx_sites.specs.LinkCalls.{HasRead, ReadsClock}
 use Rattle.atx_sites.specs.Names.{AreAnswered, MayReach}
 use Rattle.atx_sites.specs.declared.outgoing.Outgoing.{Outgoing}
 use Rattle.atx_sites.specs.declared.outgoing.Stage.{Stage}
@@ -48,23 +51,6 @@ Begins number addresses (Some stream) old new =
     (mid : Calls) × Unreached addresses old mid × ((address : SocketAddr) × Contains addresses address × (new ≡ then (Connect address (Ok (number stream))) mid))
 Begins number addresses None old new = Unreached addresses old new
 
--- one connection went on: its bytes and its host's addresses stay
-abbrev pub Went : {C : Type 0} → (C → Number) → Outgoing C → Calls → Outgoing C → Calls → Type 0
-Went number before old after new =
-    Leaves before.addresses.items before.bytes.items (number before.stream) before.done old (number after.stream) after.done new
-    × (after.bytes ≡ before.bytes) × (after.addresses ≡ before.addresses)
-
--- the one at a place went on
-abbrev pub WentAt : {C : Type 0} → (C → Number) → ℕ → List (Outgoing C) → Calls → List (Outgoing C) → Calls → Type 0
-WentAt {C = C} number place befores old afters new =
-    (before : Outgoing C) × (after : Outgoing C) × (before ≡ slice_index_or befores place before) × Went number before old after new × (afters ≡ slice_set befores place after)
-
--- each of them went on, one behind the other
-pub data Advances {C : Type 0} (number : C → Number) (old : Calls) : List (Outgoing C) → List (Outgoing C) → Calls → Type 0 where
-  none : {befores afters : List (Outgoing C)} {new : Calls} → befores ≡ [] → afters ≡ [] → new ≡ old → Advances number old befores afters new
-  next : {befores afters front went : List (Outgoing C)} {mid new : Calls} (before after : Outgoing C) → Advances number old front went mid → Went number before mid after new
-      → befores ≡ front ++ before ∷ [] → afters ≡ went ++ after ∷ [] → Advances number old befores afters new
-
 -- nothing more is to be done; and of these, those of which not all bytes were taken
 abbrev pub is_last : Stage → Bool
 is_last stages.Over = true
@@ -80,6 +66,50 @@ is_over outgoing = is_last outgoing.stage
 
 abbrev pub is_lost : {C : Type 0} → Outgoing C → Bool
 is_lost outgoing = is_loss outgoing.stage
+
+-- it has 5 seconds at most from then on
+abbrev pub HasFive : {C : Type 0} → Duration → Outgoing C → Type 0
+HasFive at outgoing = as_nanos outgoing.ends ≤ as_nanos at + 5_000_000_000
+
+-- by a clock that was read
+abbrev pub IsTimed : {C : Type 0} → Calls → Outgoing C → Type 0
+IsTimed calls outgoing = (at : Duration) × HasRead at calls × HasFive at outgoing
+
+-- how many stages it has behind it
+abbrev pub rank : Stage → ℕ
+rank stages.Connecting = 0
+rank stages.Sending = 1
+rank stages.Ending = 2
+rank stage = 3
+
+-- its time is as before; or it came to a later stage, and has 5 seconds from now on
+abbrev pub StaysInTime : {C : Type 0} → Duration → Outgoing C → Outgoing C → Type 0
+StaysInTime now before after = (after.ends ≡ before.ends) ⊎ ((rank before.stage < rank after.stage) × HasFive now after)
+
+-- by a clock that reads so; and where it isn't over, its time is to come
+abbrev pub GoesInTime : {C : Type 0} → Duration → Outgoing C → Outgoing C → Type 0
+GoesInTime now before after = StaysInTime now before after × (is_over after ≡ false → has_passed now after.ends ≡ false)
+
+-- one connection went on by a clock that reads so: its bytes and its host's addresses stay
+abbrev pub Went : {C : Type 0} → (C → Number) → Duration → Outgoing C → Calls → Outgoing C → Calls → Type 0
+Went number now before old after new =
+    Leaves before.addresses.items before.bytes.items (number before.stream) before.done old (number after.stream) after.done new
+    × (after.bytes ≡ before.bytes) × (after.addresses ≡ before.addresses) × GoesInTime now before after
+
+-- the one at a place went on
+abbrev pub WentAt : {C : Type 0} → (C → Number) → Duration → ℕ → List (Outgoing C) → Calls → List (Outgoing C) → Calls → Type 0
+WentAt {C = C} number now place befores old afters new =
+    (before : Outgoing C) × (after : Outgoing C) × (before ≡ slice_index_or befores place before) × Went number now before old after new × (afters ≡ slice_set befores place after)
+
+-- each of them went on, one behind the other
+pub data Advances {C : Type 0} (number : C → Number) (now : Duration) (old : Calls) : List (Outgoing C) → List (Outgoing C) → Calls → Type 0 where
+  none : {befores afters : List (Outgoing C)} {new : Calls} → befores ≡ [] → afters ≡ [] → new ≡ old → Advances number now old befores afters new
+  next : {befores afters front went : List (Outgoing C)} {mid new : Calls} (before after : Outgoing C) → Advances number now old front went mid → Went number now before mid after new
+      → befores ≡ front ++ before ∷ [] → afters ≡ went ++ after ∷ [] → Advances number now old befores afters new
+
+-- the time of each is to come, by a clock that was read since then
+abbrev pub IsOnTime : {C : Type 0} → Calls → Calls → Outgoing C → Type 0
+IsOnTime start new outgoing = (now : Duration) × ReadsClock now start new × (has_passed now outgoing.ends ≡ false)
 
 -- some of them were left out, and the others are in their order
 pub data IsPart {X : Type 0} (all : List X) : List X → Type 0 where
@@ -116,10 +146,10 @@ abbrev pub HasShare : {C : Type 0} → Option SocketAddr → Bool → List (Outg
 HasShare host room leaving = room ≡ true → (test : Option SocketAddr → Bool) → Tests host test → number_to test leaving < 64
 
 -- a post's connection was begun, to one of these addresses
-abbrev pub IfBegun : {C : Type 0} → (C → Number) → List SocketAddr → List ℕ → Option (Outgoing C) → Calls → Calls → Type 0
-IfBegun number addresses bytes (Some begun) old new =
-    Begins number addresses (Some begun.stream) old new × (begun.addresses.items ≡ addresses) × (begun.bytes.items ≡ bytes) × (begun.done ≡ 0)
-IfBegun number addresses bytes None old new = Unreached addresses old new
+abbrev pub IfBegun : {C : Type 0} → (C → Number) → Duration → List SocketAddr → List ℕ → Option (Outgoing C) → Calls → Calls → Type 0
+IfBegun number now addresses bytes (Some begun) old new =
+    Begins number addresses (Some begun.stream) old new × (begun.addresses.items ≡ addresses) × (begun.bytes.items ≡ bytes) × (begun.done ≡ 0) × HasFive now begun
+IfBegun number now addresses bytes None old new = Unreached addresses old new
 
 -- whether so many bytes were taken of all
 abbrev pub IfOut : Bool → ℕ → ℕ → Type 0
@@ -133,18 +163,18 @@ Closes result all taken = IfOut (not (is_err result)) all taken
 -- it stands behind the others, or it is closed
 abbrev pub Joins : {C E : Type 0} → Result (Unit {0}) E → Outgoing C → List (Outgoing C) → List (Outgoing C) → Type 0
 Joins result outgoing others all =
-    ((is_err result ≡ false) × (all ≡ others ++ outgoing ∷ [])) ⊎ ((all ≡ others) × Closes result (length outgoing.bytes.items) outgoing.done)
+    ((is_err result ≡ false) × (is_over outgoing ≡ false) × (all ≡ others ++ outgoing ∷ [])) ⊎ ((all ≡ others) × Closes result (length outgoing.bytes.items) outgoing.done)
 
 -- one more went on as far as it could, and stands behind the others unless it is closed
-abbrev pub Starts : {C E : Type 0} → (C → Number) → Outgoing C → Calls → Result (Unit {0}) E → List (Outgoing C) → List (Outgoing C) → Calls → Type 0
-Starts {C = C} number before old result others all new = (after : Outgoing C) × Went number before old after new × Joins result after others all
+abbrev pub Starts : {C E : Type 0} → (C → Number) → Duration → Outgoing C → Calls → Result (Unit {0}) E → List (Outgoing C) → List (Outgoing C) → Calls → Type 0
+Starts {C = C} number now before old result others all new = (after : Outgoing C) × Went number now before old after new × Joins result after others all
 
 -- these bytes are posted to one of these addresses, where one more has room
 abbrev pub PostsTo : {C E : Type 0} → (C → Number) → List SocketAddr → List ℕ → List (Outgoing C) → Calls → Result (Unit {0}) E → List (Outgoing C) → Calls → Type 0
 PostsTo {C = C} number addresses bytes before old result after new =
     (others : List (Outgoing C)) × IsPart before others
     × ((IsErr result × (after ≡ others) × Unreached addresses old new)
-    ⊎ ((begun : Outgoing C) × (mid : Calls) × IfBegun number addresses bytes (Some begun) old mid × Starts number begun mid result others after new))
+    ⊎ ((now : Duration) × HasRead now old × (begun : Outgoing C) × (mid : Calls) × IfBegun number now addresses bytes (Some begun) old mid × Starts number now begun mid result others after new))
 
 -- the clock is read, and a host is looked up
 pub data Looks (host : List ℕ) (port : ℕ) (old : Calls) : Calls → Type 0 where
@@ -168,4 +198,5 @@ abbrev pub Answers : {C : Type 0} → (C → Number) → C → Vec ℕ Global �
 Answers {C = C} number stream bytes sent before old result after new =
     (others : List (Outgoing C)) × IsPart before others × (mid : Calls) × ((got : Answer Duration) × (mid ≡ then (Monotonic got) old))
     × (((after ≡ others) × (new ≡ mid) × Closes result (length bytes.items) sent)
-    ⊎ ((begun : Outgoing C) × (begun.stream ≡ stream) × (begun.bytes ≡ bytes) × (begun.done ≡ sent) × Starts number begun mid result others after new))
+    ⊎ ((now : Duration) × ReadsClock now old mid × (begun : Outgoing C) × (begun.stream ≡ stream) × (begun.bytes ≡ bytes) × (begun.done ≡ sent) × HasFive now begun
+    × Starts number now begun mid result others after new))

@@ -1,10 +1,15 @@
 pub mod Arrivals
+pub mod Deadlines
 pub mod Departures
 pub mod Disks
 pub mod Failures
 pub mod FileCalls
 pub mod Files
+pub mod Interim
 pub mod LinkCalls
+pub mod Machines
 pub mod Names
 pub mod Networks
 pub mod Resends
+pub mod Turns
+pub mod Waits

@@ -3,8 +3,9 @@ use Rattle.std.specs.Prelude.{ℕ, ℤ, pos, Bool, List, Option, Some, None, Res
 use Rattle.std.specs.Int.Signed.{le_z}
 use Rattle.std.specs.declared.io.Error.{Error}
 use Rattle.std.specs.declared.net.SocketAddr.{SocketAddr}
+use Rattle.std.specs.declared.time.Duration.{Duration}
 use Rattle.system_calls.specs.Calls.{Call, Calls, Number, then}
-use Rattle.system_calls.specs.Calls.Call.{Accept, Listen, Poll, Read, Write}
+use Rattle.system_calls.specs.Calls.Call.{Accept, Listen, Monotonic, Poll, Read, Write}
 use Rattle.libc.specs.declared.types.pollfd.{pollfd}
 
 abbrev pub number_at : {L : Type 0} → (L → Number) → Option L → Number
@@ -23,6 +24,14 @@ IfListens address (Err fault) listener old new = Unit {0}
 pub data Later (old : Calls) : Calls → Type 0 where
   none : {new : Calls} → new ≡ old → Later old new
   more : {mid new : Calls} (call : Call) → Later old mid → new ≡ then call mid → Later old new
+
+-- the clock was read so, at some time
+abbrev pub HasRead : Duration → Calls → Type 0
+HasRead now calls = (mid : Calls) × (next : Calls) × (next ≡ then (Monotonic (Ok now)) mid) × Later next calls
+
+-- and since then
+abbrev pub ReadsClock : Duration → Calls → Calls → Type 0
+ReadsClock now old new = (mid : Calls) × (next : Calls) × Later old mid × (next ≡ then (Monotonic (Ok now)) mid) × Later next new
 
 -- poll waits for nothing, 100 milliseconds
 abbrev pub Pauses : Calls → Calls → Type 0

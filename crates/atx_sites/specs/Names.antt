@@ -7,7 +7,7 @@ use Rattle.std.specs.declared.net.SocketAddr.{SocketAddr}
 use Rattle.std.specs.declared.time.Duration.{Duration}
 use Rattle.system_calls.specs.Calls.{Call, Calls, then}
 use Rattle.system_calls.specs.Calls.Call.{Monotonic, Resolve}
-use Rattle.atx_sites.specs.LinkCalls.{Later}
+use Rattle.atx_sites.specs.LinkCalls.{ReadsClock}
 use Rattle.atx_sites.specs.declared.resolved_names.Name.{Name}
 
 -- a host was answered these addresses at a port, and right behind that the clock read so. Other calls may stand behind both
@@ -27,10 +27,6 @@ AreAnswered calls names = All (IsAnswered calls) names
 -- it is kept for that host and port, and its time isn't over
 abbrev pub IsFor : List ℕ → ℕ → Duration → Name → Type 0
 IsFor host port now name = (string_bytes name.host ≡ host) × (name.port ≡ port) × (as_nanos now < as_nanos name.ends)
-
--- the clock was read since then
-abbrev pub ReadsClock : Duration → Calls → Calls → Type 0
-ReadsClock now old new = (mid : Calls) × (next : Calls) × Later old mid × (next ≡ then (Monotonic (Ok now)) mid) × Later next new
 
 -- the host was answered them at that port less than 60 seconds ago, by the clock as it was read in this call
 abbrev pub IsFresh : List ℕ → ℕ → List SocketAddr → Calls → Calls → Type 0

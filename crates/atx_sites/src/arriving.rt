@@ -1,15 +1,16 @@
 //! One connection that is read aside.
 
-ghost use Rattle.std.specs.Prelude.{◌≡◌, ◌≤◌, ◌+◌, [], length};
-ghost use Rattle.system_calls.specs.Calls.{Number};
-ghost use Rattle.atx_sites.specs.Arrivals.{Grows, HasCome};
+ghost use Rattle.std.specs.Prelude.{◌≡◌, ◌≤◌, ◌<◌, ◌+◌, [], length};
+ghost use Rattle.system_calls.specs.Calls.{Calls, Number};
+ghost use Rattle.atx_sites.specs.Arrivals.{Grows, HasCome, Stays, is_coming, is_due, is_more, is_read, is_ready, is_silent};
+ghost use Rattle.atx_sites.specs.Interim.{Hears, HearsAndSays, Says, interim};
 ghost use Rattle.atx_sites.specs.LinkCalls.{Later};
 
-use crate::deadlines::left;
-use crate::framing::{Stage, come_to};
+use crate::deadlines::{has_passed, left};
+use crate::framing::{Progress, Stage, come_to};
 use crate::pages::page_of;
 use httparse::spans::HeaderSpan;
-use libc::net::POLLIN;
+use libc::net::{POLLIN, POLLOUT};
 use libc::types::pollfd;
 use std::alloc::Global;
 use std::io::{self, ErrorKind};
@@ -22,6 +23,13 @@ const MOST_BYTES: usize = 131_072;
 
 /// The most bytes of one read.
 const PIECE_BYTES: usize = 8192;
+
+/// The interim line, and the empty line that ends it (RFC 9110, section 15.2.1).
+pub(crate) fn interim() -> &'static [u8]
+    ensures { result.now ≡ interim }
+{
+    b"HTTP/1.1 100 Continue\r\n\r\n"
+}
 
 /// Whether more may come on a connection.
 #[derive(Clone, Copy, Debug, PartialEq, Eq)]
@@ -41,7 +49,9 @@ pub(crate) struct Arriving<C> {
     pub(crate) rest: Rest,
     /// The time at which it has been read for long enough.
     pub(crate) ends: Duration,
-    stage: Stage,
+    pub(crate) progress: Progress,
+    /// How many bytes of the interim line the system took.
+    pub(crate) said: usize,
 }
 
 /// What the system is asked of a descriptor: whether there is something to read. It passes over a negative one.
@@ -62,41 +72,80 @@ impl<C> Arriving<C> {
     pub(crate) fn new(alloc: Global, stream: C, ends: Duration) -> Arriving<C>
         ensures stream { result.stream ≡ stream }
         ensures bytes { result.bytes.items ≡ [] }
+        ensures ends { result.ends ≡ ends }
     {
         Arriving {
             stream,
             bytes: Vec::new(alloc),
             rest: Rest::More,
             ends,
-            stage: Stage::Head,
+            progress: Progress {
+                stage: Stage::Head,
+                waits: false,
+            },
+            said: 0,
         }
     }
 
     /// Whether more of it is to be read aside.
-    pub(crate) fn is_coming(&self) -> bool {
-        let is_read = matches!(self.stage, Stage::Whole | Stage::Foreign);
-        self.rest == Rest::More && !is_read && self.bytes.len() < MOST_BYTES
+    pub(crate) fn is_coming(&self) -> bool
+        ensures { result ≡ is_coming self.now }
+    {
+        is_more(self.rest) && !is_read(self.progress.stage) && self.bytes.len() < MOST_BYTES
     }
 
     /// Whether a web page sent it.
     pub(crate) fn is_foreign(&self) -> bool {
-        self.stage == Stage::Foreign
+        self.progress.stage == Stage::Foreign
     }
 
     /// Whether its request is whole, and asks for a page.
     pub(crate) fn asks_page(&self) -> bool {
-        self.stage == Stage::Whole && page_of(self.bytes.as_slice()).is_some()
+        self.progress.stage == Stage::Whole && page_of(self.bytes.as_slice()).is_some()
     }
 
     /// Whether its turn may come: its request is whole, it ended or failed, or its time is over.
-    pub(crate) fn is_ready(&self, now: Duration) -> bool {
-        !self.is_coming() || now >= self.ends
+    pub(crate) fn is_ready(&self, now: Duration) -> bool
+        ensures { result ≡ is_ready now self.now }
+    {
+        !self.is_coming() || has_passed(self.ends, now)
     }
 
     /// Whether its time is over, and nothing came.
-    pub(crate) fn is_silent(&self, now: Duration) -> bool {
-        self.rest == Rest::More && self.bytes.is_empty() && now >= self.ends
+    pub(crate) fn is_silent(&self, now: Duration) -> bool
+        ensures { result ≡ is_silent now self.now }
+    {
+        is_more(self.rest) && self.bytes.is_empty() && has_passed(self.ends, now)
     }
+
+    /// Whether its client waits for the interim line, of which some isn't out.
+    pub(crate) fn is_due(&self) -> bool
+        ensures { result ≡ is_due self.now }
+    {
+        self.progress.waits && self.said < interim().len() && self.is_coming()
+    }
+}
+
+fn is_more(rest: Rest) -> bool
+    ensures { result ≡ is_more rest }
+{
+    matches!(rest, Rest::More)
+}
+
+/// Whether nothing more of a request is read aside at a stage.
+fn is_read(stage: Stage) -> bool
+    ensures { result ≡ is_read stage }
+{
+    matches!(stage, Stage::Whole | Stage::Foreign)
+}
+
+/// What the system is asked of a connection that is read aside.
+pub(crate) fn asked_of<C: AsRawFd>(arriving: &Arriving<C>) -> pollfd {
+    let mut ask = asked(arriving.stream.as_raw_fd());
+    if arriving.is_due() {
+        ask.events = POLLIN | POLLOUT;
+    }
+    ask
 }
 
 /// Reads once what has come, at most so many bytes and at most 8,192, and says how many.
@@ -106,6 +155,8 @@ fn read_once<S: System>(system: &mut S, arriving: &mut Arriving<S::Stream>, most
     ensures grows { Grows arriving.old.bytes.items arriving.new.bytes.items }
     ensures later { Later (S.calls system.old) (S.calls system.new) }
     ensures most { length arriving.new.bytes.items ≤ length arriving.old.bytes.items + most }
+    ensures hears { (first : Calls) → Hears (S.Stream.raw_fd arriving.old.stream) first (S.calls system.old) → Hears (S.Stream.raw_fd arriving.old.stream) first (S.calls system.new) }
+    ensures stays { Stays arriving.old arriving.new × (arriving.new.said ≡ arriving.old.said) }
 {
     let mut buf = [0u8; PIECE_BYTES];
     let piece = &mut buf[..most.min(PIECE_BYTES)];
@@ -136,6 +187,8 @@ pub(crate) fn read_aside<S: System>(
     ensures later { Later (S.calls system.old) (S.calls system.new) }
     ensures most { length arriving.new.bytes.items ≤ length arriving.old.bytes.items + more }
     ensures bound { length arriving.old.bytes.items ≤ 131_072 → length arriving.new.bytes.items ≤ 131_072 }
+    ensures hears { Hears (S.Stream.raw_fd arriving.old.stream) (S.calls system.old) (S.calls system.new) }
+    ensures stays { Stays arriving.old arriving.new × (arriving.new.said ≡ arriving.old.said) }
 {
     let most = MOST_BYTES.min(arriving.bytes.len().saturating_add(more));
     'reads: for _ in 0..u16::MAX {
@@ -144,10 +197,47 @@ pub(crate) fn read_aside<S: System>(
             return;
         }
         let n = read_once(system, arriving, most - had);
-        arriving.stage = come_to(arriving.stage, arriving.bytes.as_slice(), places);
+        arriving.progress = come_to(arriving.progress, arriving.bytes.as_slice(), places);
         if n < PIECE_BYTES {
             return;
         }
+    }
+}
+
+/// Hands the system what it hasn't taken of the interim line, once. Where that fails, so did the connection.
+fn say<S: System>(system: &mut S, arriving: &mut Arriving<S::Stream>)
+    requires { arriving.old.said < length interim }
+    ensures says { Says S.Stream.raw_fd arriving.old arriving.new (S.calls system.old) (S.calls system.new) }
+    ensures same { (arriving.new.bytes ≡ arriving.old.bytes) × Stays arriving.old arriving.new }
+{
+    match system.write(&arriving.stream, &interim()[arriving.said..]) {
+        Ok(0) => arriving.rest = Rest::Failed,
+        Ok(n) => arriving.said += n,
+        Err(fault) => {
+            if !passes(fault.kind()) {
+                arriving.rest = Rest::Failed;
+            }
+        }
+    }
+}
+
+/// Reads aside what has come, at most so many bytes more, and then says the interim line where the client waits for that.
+pub(crate) fn hear<S: System>(
+    system: &mut S,
+    arriving: &mut Arriving<S::Stream>,
+    places: &mut [HeaderSpan],
+    more: usize,
+)
+    ensures came { (listener : Number) → HasCome S.Stream.raw_fd listener (S.calls system.old) arriving.old → HasCome S.Stream.raw_fd listener (S.calls system.new) arriving.new }
+    ensures later { Later (S.calls system.old) (S.calls system.new) }
+    ensures most { length arriving.new.bytes.items ≤ length arriving.old.bytes.items + more }
+    ensures bound { length arriving.old.bytes.items ≤ 131_072 → length arriving.new.bytes.items ≤ 131_072 }
+    ensures stays { Stays arriving.old arriving.new }
+    ensures calls { HearsAndSays S.Stream.raw_fd arriving.old arriving.new (S.calls system.old) (S.calls system.new) }
+{
+    read_aside(system, arriving, places, more);
+    if arriving.is_due() {
+        say(system, arriving);
     }
 }
 

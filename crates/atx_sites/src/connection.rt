@@ -1,19 +1,24 @@
 //! The listener of a node, the connections that are read aside, and the one that is served.
 
-ghost use Rattle.std.specs.Prelude.{[], ◌≡◌, ◌≤◌, ◌<◌, ◌+◌, ◌++◌, ◌^◌, None, Some, IfErr, IfOk, IfSome, IsErr, OnErr, OnOk, drop, length, take};
+ghost use Rattle.std.specs.Prelude.{[], ◌≡◌, ◌≤◌, ◌<◌, ◌+◌, ◌++◌, ◌^◌, All, List, None, Some, IfErr, IfOk, IfSome, IsErr, OnErr, OnOk, drop, false, length, take, true};
 ghost use Rattle.std.specs.Io.{ReadsAtMost, WritesAtMost};
-ghost use Rattle.std.specs.IoError.{raw_os_error};
-ghost use Rattle.system_calls.specs.Calls.{Number};
-ghost use Rattle.atx_sites.specs.Arrivals.{Bounded, ConnectionCame, Gives, HasCome, HaveCome, Keeps, KeepsOn, ServedCame};
-ghost use Rattle.atx_sites.specs.LinkCalls.{IfListens, Later, Looks, Pauses, Polls, Sends, number_at};
-ghost use Rattle.atx_sites.specs.Departures.{Within};
+ghost use Rattle.std.specs.declared.time.Duration.{Duration};
+ghost use Rattle.system_calls.specs.Calls.{Calls, Number};
+ghost use Rattle.atx_sites.specs.Arrivals.{Bounded, ConnectionCame, Gives, HasCome, HaveCome, Keeps, KeepsOn, ServedCame, is_ready, is_silent};
+ghost use Rattle.atx_sites.specs.LinkCalls.{IfListens, Later, Looks, Pauses, Polls, ReadsClock, Sends, number_at};
+ghost use Rattle.atx_sites.specs.Departures.{IsOnTime, IsTimed, Within};
+ghost use Rattle.atx_sites.specs.Interim.{begun_of};
+ghost use Rattle.atx_sites.specs.Waits.{Changes, IfAllOnTime, IfInTime, IsInTime};
+ghost use Rattle.atx_sites.specs.declared.arriving.Arriving.{Arriving};
+ghost use Rattle.atx_sites.specs.declared.outgoing.Outgoing.{Outgoing};
 ghost use Rattle.atx_sites.specs.Failures.{Ends};
+ghost use Rattle.atx_sites.specs.Turns.{EndsBy, EndsTurn};
 ghost use Rattle.atx_sites.specs.declared.troubles.Step.TheVariants as steps;
 
-use crate::arriving::{Arriving, Rest, read_on};
-use crate::deadlines::{earlier, millis_until};
+use crate::arriving::{Arriving, Rest, interim, read_on};
+use crate::deadlines::{earlier, has_passed, millis_until};
 use crate::departures::{self, Departures};
-use crate::pages::show_all;
+use crate::pages::show_next;
 use crate::waiting::{self, Waiting, accept_all, read_found};
 use libc::types::pollfd;
 use shown_pages::page::Counts;
@@ -117,7 +122,7 @@ fn begin<L, C: AsRawFd + Drop>(
 ) -> Result<(), AllocError>
     ensures aside { connection.new.waiting.arriving.items ≡ [] }
     ensures same { (connection.new.listener ≡ connection.old.listener) × (connection.new.served ≡ connection.old.served) }
-    ensures leaving { (departures.new.leaving.items ≡ departures.old.leaving.items) × (departures.new.lost ≡ departures.old.lost) }
+    ensures leaving { (departures.new.leaving.items ≡ departures.old.leaving.items) × (departures.new.lost ≡ departures.old.lost) × (departures.new.names ≡ departures.old.names) }
 {
     connection.shown = Shown::new();
     connection.waiting.begin()?;
@@ -127,7 +132,7 @@ fn begin<L, C: AsRawFd + Drop>(
 }
 
 /// Listens at an address, in place of the one before. What was open is closed.
-#[tactic(auto, using(crate::proofs::Tellings::ended_listen))]
+#[tactic(auto, using(crate::proofs::Tellings::ended_listen, crate::proofs::Tellings::no_memory, crate::proofs::Comings::as_late))]
 pub(crate) fn listen<S: System>(
     system: &mut S,
     connection: &mut Connection<S::Listener, S::Stream>,
@@ -136,9 +141,10 @@ pub(crate) fn listen<S: System>(
 ) -> io::Result<()>
     ensures calls { IfListens address.now result (number_at S.Listener.raw_fd connection.new.listener) (S.calls system.old) (S.calls system.new) }
     ensures came { ConnectionCame S.Stream.raw_fd S.Listener.raw_fd (S.calls system.new) connection.new }
+    ensures later { Later (S.calls system.old) (S.calls system.new) }
     ensures fault { IfErr result (λ e. Ends None steps.Listen e (S.calls system.new)) }
     ensures aside { connection.new.waiting.arriving.items ≡ [] }
-    ensures leaving { (departures.new.leaving.items ≡ departures.old.leaving.items) × (departures.new.lost ≡ departures.old.lost) }
+    ensures leaving { (departures.new.leaving.items ≡ departures.old.leaving.items) × (departures.new.lost ≡ departures.old.lost) × (departures.new.names ≡ departures.old.names) }
 {
     connection.listener = None;
     connection.served = None;
@@ -182,6 +188,7 @@ fn go_on<S: System>(
     ensures later { Later (S.calls system.old) (S.calls system.new) }
     ensures fault { IfErr result (λ e. Ends (S.Listener.raw_fd listener.now) steps.Accept e (S.calls system.new)) }
     ensures bounded { Bounded waiting.old.arriving.items → Bounded waiting.new.arriving.items }
+    ensures changes { (first : List (Arriving S.Stream)) (start : Calls) → ReadsClock now start (S.calls system.old) → Changes first start waiting.old.arriving.items (S.calls system.old) → Changes first start waiting.new.arriving.items (S.calls system.new) }
 {
     let Some((first, others)) = found.split_first() else {
         return Ok(());
@@ -245,6 +252,7 @@ fn wait_once<S: System>(
     ensures later { Later (S.calls system.old) (S.calls system.new) }
     ensures fault { IfErr result (λ e. Ends (S.Listener.raw_fd listener.now) steps.Accept e (S.calls system.new)) }
     ensures bounded { Bounded waiting.old.arriving.items → Bounded waiting.new.arriving.items }
+    ensures changes { (first : List (Arriving S.Stream)) (start : Calls) → Changes first start waiting.old.arriving.items (S.calls system.old) → Changes first start waiting.new.arriving.items (S.calls system.new) }
 {
     let is_ready = waiting.has_ready(now);
     let Ok(arriving) = asked_of(listener, waiting, departures, asks) else {
@@ -274,6 +282,10 @@ fn advance<S: System>(
     ensures later { Later (S.calls system.old) (S.calls system.new) }
     ensures fault { (listener : Number) → IfErr result (λ e. Ends listener steps.Accept e (S.calls system.new)) }
     ensures within { Within departures.old.leaving.items → Within departures.new.leaving.items }
+    ensures timed { All (IsTimed (S.calls system.old)) departures.old.leaving.items → All (IsTimed (S.calls system.new)) departures.new.leaving.items }
+    ensures names { departures.new.names ≡ departures.old.names }
+    ensures clock { IfOk result (λ now. ReadsClock now (S.calls system.old) (S.calls system.new)) }
+    ensures pace { IfOk result (λ now. All (IsOnTime (S.calls system.old) (S.calls system.new)) departures.new.leaving.items) }
 {
     match system.monotonic() {
         Ok(now) => {
@@ -294,16 +306,9 @@ fn begun(until: Option<Duration>, every: Option<Duration>, now: Duration) -> Opt
 
 fn is_over(until: Option<Duration>, now: Duration) -> bool {
     match until {
-        Some(until) => now >= until,
+        Some(until) => has_passed(until, now),
         None => false,
     }
-}
-
-/// The error where nobody came in time.
-fn nobody() -> io::Error
-    ensures { raw_os_error result ≡ None }
-{
-    io::Error::new(ErrorKind::TimedOut, "nobody came in time")
 }
 
 /// What a web page is answered.
@@ -319,6 +324,9 @@ fn refuse<S: System>(
 )
     ensures later { Later (S.calls system.old) (S.calls system.new) }
     ensures within { Within departures.old.leaving.items → Within departures.new.leaving.items }
+    ensures timed { All (IsTimed (S.calls system.old)) departures.old.leaving.items → All (IsTimed (S.calls system.new)) departures.new.leaving.items }
+    ensures names { departures.new.names ≡ departures.old.names }
+    ensures pace { (start : Calls) → Later start (S.calls system.old) → All (IsOnTime start (S.calls system.old)) departures.old.leaving.items → All (IsOnTime start (S.calls system.new)) departures.new.leaving.items }
 {
     let Arriving { stream, .. } = arriving;
     if let Ok(bytes) = Vec::from_slice(alloc, FORBIDDEN) {
@@ -339,8 +347,14 @@ fn next<S: System>(
     ensures later { Later (S.calls system.old) (S.calls system.new) }
     ensures bounded { Bounded waiting.old.arriving.items → Bounded waiting.new.arriving.items }
     ensures within { Within departures.old.leaving.items → Within departures.new.leaving.items }
+    ensures changes { (first : List (Arriving S.Stream)) (start : Calls) → ReadsClock now start (S.calls system.old) → Changes first start waiting.old.arriving.items (S.calls system.old) → Changes first start waiting.new.arriving.items (S.calls system.new) }
+    ensures ready { IfSome result (λ a. is_ready now a ≡ true) }
+    ensures silent { All (λ a. is_silent now a ≡ false) waiting.new.arriving.items }
+    ensures timed { All (IsTimed (S.calls system.old)) departures.old.leaving.items → All (IsTimed (S.calls system.new)) departures.new.leaving.items }
+    ensures names { departures.new.names ≡ departures.old.names }
+    ensures pace { (start : Calls) → Later start (S.calls system.old) → All (IsOnTime start (S.calls system.old)) departures.old.leaving.items → All (IsOnTime start (S.calls system.new)) departures.new.leaving.items }
 {
-    let Some(ready) = waiting.ready(now) else {
+    let Some(ready) = waiting.ready(now, false) else {
         return None;
     };
     if !ready.is_foreign() {
@@ -351,8 +365,8 @@ fn next<S: System>(
     None
 }
 
-/// Waits for a connection whose turn may come, for so long where a time is given, and no longer than until then. Meanwhile what
-/// leaves goes on.
+/// Waits for a connection whose turn may come, for so long where a time is given, and no longer than until then: none where nobody
+/// came by then. Meanwhile what leaves goes on.
 #[tactic(auto, using(crate::proofs::Comings::as_late, crate::proofs::Comings::later_still, crate::proofs::Comings::have_still))]
 fn wait<S: System>(
     system: &mut S,
@@ -362,13 +376,18 @@ fn wait<S: System>(
     asks: &mut Vec<pollfd>,
     every: Option<Duration>,
     until: Option<Duration>,
-) -> io::Result<Arriving<S::Stream>>
+) -> io::Result<Option<Arriving<S::Stream>>>
     ensures came { HaveCome S.Stream.raw_fd (S.Listener.raw_fd listener.now) (S.calls system.old) waiting.old.arriving.items → HaveCome S.Stream.raw_fd (S.Listener.raw_fd listener.now) (S.calls system.new) waiting.new.arriving.items }
     ensures later { Later (S.calls system.old) (S.calls system.new) }
-    ensures taken { HaveCome S.Stream.raw_fd (S.Listener.raw_fd listener.now) (S.calls system.old) waiting.old.arriving.items → IfOk result (HasCome S.Stream.raw_fd (S.Listener.raw_fd listener.now) (S.calls system.new)) }
+    ensures taken { HaveCome S.Stream.raw_fd (S.Listener.raw_fd listener.now) (S.calls system.old) waiting.old.arriving.items → IfOk result (λ taken. IfSome taken (HasCome S.Stream.raw_fd (S.Listener.raw_fd listener.now) (S.calls system.new))) }
     ensures fault { IfErr result (λ e. Ends (S.Listener.raw_fd listener.now) steps.Accept e (S.calls system.new)) }
     ensures bounded { Bounded waiting.old.arriving.items → Bounded waiting.new.arriving.items }
     ensures within { Within departures.old.leaving.items → Within departures.new.leaving.items }
+    ensures changes { (first : List (Arriving S.Stream)) (start : Calls) → Changes first start waiting.old.arriving.items (S.calls system.old) → Changes first start waiting.new.arriving.items (S.calls system.new) }
+    ensures in_time { IfOk result (λ taken. IfSome taken (λ a. IsInTime a waiting.new.arriving.items (S.calls system.old) (S.calls system.new))) }
+    ensures timed { All (IsTimed (S.calls system.old)) departures.old.leaving.items → All (IsTimed (S.calls system.new)) departures.new.leaving.items }
+    ensures names { departures.new.names ≡ departures.old.names }
+    ensures pace { IfOk result (λ taken. IfSome taken (λ a. All (IsOnTime (S.calls system.old) (S.calls system.new)) departures.new.leaving.items)) }
 {
     let mut until = until;
     'waits: for _ in 0..u64::MAX {
@@ -381,17 +400,44 @@ fn wait<S: System>(
             return Err(fault);
         }
         if let Some(ready) = next(system, waiting, departures, now) {
-            return Ok(ready);
+            return Ok(Some(ready));
         }
         if is_over(until, now) {
-            return Err(nobody());
+            return Ok(None);
         }
     }
-    Err(nobody())
+    Ok(None)
+}
+
+/// What goes out before an answer: the rest of an interim line of which the system took a beginning.
+fn rest_of_line(alloc: Global, said: usize) -> Result<Vec<u8>, AllocError>
+    ensures { IfOk result (λ rest. rest.items ≡ begun_of said) }
+{
+    let line = interim();
+    if said == 0 || said >= line.len() {
+        return Ok(Vec::new(alloc));
+    }
+    Vec::from_slice(alloc, &line[said..])
+}
+
+/// One whose turn comes. Where there is no memory for the rest of its interim line, nothing more is sent on it.
+fn begin_serving<C: Drop>(alloc: Global, arriving: Arriving<C>) -> Served<C>
+    ensures same { (result.arriving ≡ arriving) × (result.given ≡ 0) }
+    ensures line { result.is_cut ≡ false → result.unsent.items ≡ begun_of arriving.said }
+{
+    let rest = rest_of_line(alloc, arriving.said);
+    let is_cut = rest.is_err();
+    Served {
+        arriving,
+        given: 0,
+        unsent: rest.unwrap_or(Vec::new(alloc)),
+        is_cut,
+    }
 }
 
 /// Waits for a connection whose turn may come: its whole request is there, it ended or failed, or its time is over. One that
 /// is still open is closed. Where none comes for as long as `every` says, none is open behind it.
+#[tactic(auto, using(crate::proofs::Tellings::unlistening))]
 pub(crate) fn take<S: System>(
     system: &mut S,
     connection: &mut Connection<S::Listener, S::Stream>,
@@ -400,9 +446,15 @@ pub(crate) fn take<S: System>(
 ) -> io::Result<()>
     ensures shut { connection.old.listener ≡ None → IsErr result }
     ensures came { ConnectionCame S.Stream.raw_fd S.Listener.raw_fd (S.calls system.old) connection.old → ConnectionCame S.Stream.raw_fd S.Listener.raw_fd (S.calls system.new) connection.new }
+    ensures later { Later (S.calls system.old) (S.calls system.new) }
     ensures fault { IfErr result (λ e. Ends (number_at S.Listener.raw_fd connection.old.listener) steps.Accept e (S.calls system.new)) }
     ensures bounded { Bounded connection.old.waiting.arriving.items → Bounded connection.new.waiting.arriving.items }
     ensures within { Within departures.old.leaving.items → Within departures.new.leaving.items }
+    ensures changes { Changes connection.old.waiting.arriving.items (S.calls system.old) connection.new.waiting.arriving.items (S.calls system.new) }
+    ensures in_time { IfInTime result connection.new.served connection.new.waiting.arriving.items (S.calls system.old) (S.calls system.new) }
+    ensures timed { All (IsTimed (S.calls system.old)) departures.old.leaving.items → All (IsTimed (S.calls system.new)) departures.new.leaving.items }
+    ensures names { departures.new.names ≡ departures.old.names }
+    ensures pace { IfAllOnTime result connection.new.served departures.new.leaving.items (S.calls system.old) (S.calls system.new) }
 {
     close(system, connection, departures);
     let Some(listener) = &connection.listener else {
@@ -417,16 +469,11 @@ pub(crate) fn take<S: System>(
         every,
         connection.shown.end(),
     ) {
-        Ok(arriving) => {
-            connection.served = Some(Served {
-                arriving,
-                given: 0,
-                unsent: Vec::new(connection.alloc),
-                is_cut: false,
-            });
+        Ok(Some(arriving)) => {
+            connection.served = Some(begin_serving(connection.alloc, arriving));
             Ok(())
         }
-        Err(fault) if every.is_some() && fault.kind() == ErrorKind::TimedOut => Ok(()),
+        Ok(None) => Ok(()),
         Err(fault) => Err(fault),
     }
 }
@@ -445,6 +492,37 @@ fn counted(base: &Counts, now: Duration, since: Duration, foreign: u64) -> Count
     counts
 }
 
+/// Shows its page to one that asks for it, and else waits until something can be done, and does it. Whether that goes on: the turn
+/// of none may come yet, and the time isn't over.
+#[tactic(auto, using(crate::proofs::Comings::later_still))]
+fn show_or_wait<S: System, P: Pages>(
+    system: &mut S,
+    waiting: &mut Waiting<S::Stream>,
+    departures: &mut Departures<S::Stream>,
+    listener: &S::Listener,
+    asks: &mut Vec<pollfd>,
+    now: Duration,
+    until: Option<Duration>,
+    pages: &P,
+    counts: &Counts,
+) -> bool
+    ensures came { HaveCome S.Stream.raw_fd (S.Listener.raw_fd listener.now) (S.calls system.old) waiting.old.arriving.items → HaveCome S.Stream.raw_fd (S.Listener.raw_fd listener.now) (S.calls system.new) waiting.new.arriving.items }
+    ensures later { Later (S.calls system.old) (S.calls system.new) }
+    ensures bounded { Bounded waiting.old.arriving.items → Bounded waiting.new.arriving.items }
+    ensures within { Within departures.old.leaving.items → Within departures.new.leaving.items }
+    ensures changes { (first : List (Arriving S.Stream)) (start : Calls) → ReadsClock now start (S.calls system.old) → Changes first start waiting.old.arriving.items (S.calls system.old) → Changes first start waiting.new.arriving.items (S.calls system.new) }
+    ensures timed { All (IsTimed (S.calls system.old)) departures.old.leaving.items → All (IsTimed (S.calls system.new)) departures.new.leaving.items }
+    ensures names { departures.new.names ≡ departures.old.names }
+{
+    if show_next(system, waiting, departures, now, pages, counts) {
+        return true;
+    }
+    if waiting.has_ready(now) || is_over(until, now) {
+        return false;
+    }
+    wait_once(system, waiting, departures, listener, asks, now, until).is_ok()
+}
+
 /// Waits until the turn of one may come, or until then, and shows pages meanwhile.
 #[tactic(auto, using(crate::proofs::Comings::as_late, crate::proofs::Comings::later_still))]
 fn show_until<S: System, P: Pages>(
@@ -458,9 +536,13 @@ fn show_until<S: System, P: Pages>(
     base: &Counts,
     pages: &P,
 )
+    ensures came { HaveCome S.Stream.raw_fd (S.Listener.raw_fd listener.now) (S.calls system.old) waiting.old.arriving.items → HaveCome S.Stream.raw_fd (S.Listener.raw_fd listener.now) (S.calls system.new) waiting.new.arriving.items }
     ensures later { Later (S.calls system.old) (S.calls system.new) }
     ensures bounded { Bounded waiting.old.arriving.items → Bounded waiting.new.arriving.items }
     ensures within { Within departures.old.leaving.items → Within departures.new.leaving.items }
+    ensures changes { (first : List (Arriving S.Stream)) (start : Calls) → Changes first start waiting.old.arriving.items (S.calls system.old) → Changes first start waiting.new.arriving.items (S.calls system.new) }
+    ensures timed { All (IsTimed (S.calls system.old)) departures.old.leaving.items → All (IsTimed (S.calls system.new)) departures.new.leaving.items }
+    ensures names { departures.new.names ≡ departures.old.names }
 {
     'waits: for _ in 0..u64::MAX {
         let Ok(now) = advance(system, departures) else {
@@ -468,11 +550,9 @@ fn show_until<S: System, P: Pages>(
         };
         let until = shown.begun(every, now);
         let counts = counted(base, now, shown.since(now), waiting.foreign);
-        show_all(system, waiting, departures, pages, &counts);
-        if waiting.has_ready(now) || is_over(until, now) {
-            return;
-        }
-        if wait_once(system, waiting, departures, listener, asks, now, until).is_err() {
+        if !show_or_wait(
+            system, waiting, departures, listener, asks, now, until, pages, &counts,
+        ) {
             return;
         }
     }
@@ -490,9 +570,13 @@ pub(crate) fn show<S: System, P: Pages>(
     pages: &P,
 )
     ensures same { (connection.new.listener ≡ connection.old.listener) × (connection.new.served ≡ connection.old.served) }
+    ensures came { ConnectionCame S.Stream.raw_fd S.Listener.raw_fd (S.calls system.old) connection.old → ConnectionCame S.Stream.raw_fd S.Listener.raw_fd (S.calls system.new) connection.new }
     ensures later { Later (S.calls system.old) (S.calls system.new) }
     ensures bounded { Bounded connection.old.waiting.arriving.items → Bounded connection.new.waiting.arriving.items }
     ensures within { Within departures.old.leaving.items → Within departures.new.leaving.items }
+    ensures changes { Changes connection.old.waiting.arriving.items (S.calls system.old) connection.new.waiting.arriving.items (S.calls system.new) }
+    ensures timed { All (IsTimed (S.calls system.old)) departures.old.leaving.items → All (IsTimed (S.calls system.new)) departures.new.leaving.items }
+    ensures names { departures.new.names ≡ departures.old.names }
 {
     let Some(listener) = &connection.listener else {
         return;
@@ -644,6 +728,9 @@ pub(crate) fn send<S: System>(
 fn end<S: System>(system: &mut S, departures: &mut Departures<S::Stream>, served: Served<S::Stream>)
     ensures later { Later (S.calls system.old) (S.calls system.new) }
     ensures within { Within departures.old.leaving.items → Within departures.new.leaving.items }
+    ensures timed { All (IsTimed (S.calls system.old)) departures.old.leaving.items → All (IsTimed (S.calls system.new)) departures.new.leaving.items }
+    ensures names { departures.new.names ≡ departures.old.names }
+    ensures answers { EndsBy served.is_cut S.Stream.raw_fd served departures.old.leaving.items departures.old.lost (S.calls system.old) departures.new.leaving.items departures.new.lost (S.calls system.new) }
 {
     let Served {
         arriving,
@@ -669,6 +756,9 @@ pub(crate) fn close<S: System>(
     ensures same { (connection.new.listener ≡ connection.old.listener) × (connection.new.waiting ≡ connection.old.waiting) }
     ensures later { Later (S.calls system.old) (S.calls system.new) }
     ensures within { Within departures.old.leaving.items → Within departures.new.leaving.items }
+    ensures timed { All (IsTimed (S.calls system.old)) departures.old.leaving.items → All (IsTimed (S.calls system.new)) departures.new.leaving.items }
+    ensures names { departures.new.names ≡ departures.old.names }
+    ensures answers { EndsTurn S.Stream.raw_fd connection.old.served departures.old.leaving.items departures.old.lost (S.calls system.old) departures.new.leaving.items departures.new.lost (S.calls system.new) }
 {
     if let Some(served) = connection.served.take() {
         end(system, departures, served);
@@ -681,7 +771,9 @@ fn wait_leaving<S: System>(
     asks: &mut Vec<pollfd>,
     departures: &Departures<S::Stream>,
     now: Duration,
-) {
+)
+    ensures { Later (S.calls system.old) (S.calls system.new) }
+{
     asks.clear();
     match departures.asks(asks) {
         Ok(()) => look(
@@ -694,18 +786,24 @@ fn wait_leaving<S: System>(
 }
 
 /// Lets go out what still leaves, each until its own time is over.
+#[tactic(auto, using(crate::proofs::Comings::as_late, crate::proofs::Comings::later_still))]
 pub(crate) fn leave<S: System>(
     system: &mut S,
     asks: &mut Vec<pollfd>,
     departures: &mut Departures<S::Stream>,
-) -> io::Result<()> {
-    for _ in 0..u64::MAX {
-        let now = system.monotonic()?;
-        departures::advance(system, departures, now);
+)
+    ensures later { Later (S.calls system.old) (S.calls system.new) }
+    ensures within { Within departures.old.leaving.items → Within departures.new.leaving.items }
+    ensures timed { All (IsTimed (S.calls system.old)) departures.old.leaving.items → All (IsTimed (S.calls system.new)) departures.new.leaving.items }
+    ensures names { departures.new.names ≡ departures.old.names }
+{
+    'waits: for _ in 0..u64::MAX {
+        let Ok(now) = advance(system, departures) else {
+            return;
+        };
         if departures.is_empty() {
-            return Ok(());
+            return;
         }
         wait_leaving(system, asks, departures, now);
     }
-    Ok(())
 }

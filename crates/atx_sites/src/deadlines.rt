@@ -1,10 +1,19 @@
 //! Times that a peer is given.
 
+ghost use Rattle.std.specs.Prelude.{◌≡◌};
+ghost use Rattle.atx_sites.specs.Deadlines.{has_passed};
 ghost use Rattle.atx_sites.specs.LinkCalls.{Later};
 
 use std::io::{self, ErrorKind};
 use std::time::Duration;
 use system_calls::system::System;
+
+/// Whether a time is over.
+pub(crate) fn has_passed(time: Duration, now: Duration) -> bool
+    ensures { result ≡ has_passed now time }
+{
+    time.as_nanos() <= now.as_nanos()
+}
 
 /// The earlier of two times, where there are any.
 pub(crate) fn earlier(one: Option<Duration>, other: Option<Duration>) -> Option<Duration> {
@@ -32,7 +41,7 @@ pub(crate) fn left<S: System>(system: &mut S, ends: Duration) -> io::Result<i32>
     ensures { Later (S.calls system.old) (S.calls system.new) }
 {
     let now = system.monotonic()?;
-    if now >= ends {
+    if has_passed(ends, now) {
         return Err(ErrorKind::TimedOut.into());
     }
     Ok(millis_until(now, Some(ends)))

@@ -7,6 +7,8 @@ ghost use Rattle.std.specs.declared.net.SocketAddr.{SocketAddr};
 ghost use Rattle.site_model.specs.Counts.{capped};
 ghost use Rattle.atx_sites.specs.Departures.{Advances, Answers, HasRoom, HasShare, IfBegun, IsPart, Posts, PostsTo, Starts, Tests, WentAt, Within, host_of, is_lost, is_over, number_to, weight};
 ghost use Rattle.atx_sites.specs.Disks.{Tallied};
+ghost use Rattle.atx_sites.specs.LinkCalls.{HasRead};
+ghost use Rattle.atx_sites.specs.Names.{AreAnswered};
 ghost use Rattle.atx_sites.specs.declared.outgoing.Outgoing.{Outgoing};
 
 use crate::outgoing::{self, Outgoing, is_taken};
@@ -45,7 +47,7 @@ pub struct Departures<C> {
 impl<C: AsRawFd + Drop> Departures<C> {
     /// Nothing leaves.
     pub(crate) fn new(alloc: Global) -> Departures<C>
-        ensures { result.leaving.items ≡ [] }
+        ensures { (result.leaving.items ≡ []) × (result.names.names.items ≡ []) }
     {
         Departures {
             alloc,
@@ -57,7 +59,7 @@ impl<C: AsRawFd + Drop> Departures<C> {
 
     /// Makes room for as many as may leave.
     pub(crate) fn begin(&mut self) -> Result<(), AllocError>
-        ensures { (self.new.leaving.items ≡ self.old.leaving.items) × (self.new.lost ≡ self.old.lost) }
+        ensures { (self.new.leaving.items ≡ self.old.leaving.items) × (self.new.lost ≡ self.old.lost) × (self.new.names ≡ self.old.names) }
     {
         self.leaving.reserve(MOST)
     }
@@ -219,7 +221,7 @@ fn begun<S: System>(
     bytes: Vec<u8>,
     now: Duration,
 ) -> Option<Outgoing<S::Stream>>
-    ensures { IfBegun S.Stream.raw_fd addresses.items bytes.items result (S.calls system.old) (S.calls system.new) }
+    ensures { IfBegun S.Stream.raw_fd now addresses.items bytes.items result (S.calls system.old) (S.calls system.new) }
 {
     let mut next = 0;
     match outgoing::connect(system, &addresses, &mut next) {
@@ -245,7 +247,7 @@ fn start<S: System>(
     mut outgoing: Outgoing<S::Stream>,
     now: Duration,
 ) -> io::Result<()>
-    ensures { Starts S.Stream.raw_fd outgoing (S.calls system.old) result leaving.old.items leaving.new.items (S.calls system.new) }
+    ensures { Starts S.Stream.raw_fd now outgoing (S.calls system.old) result leaving.old.items leaving.new.items (S.calls system.new) }
 {
     outgoing::go(system, &mut outgoing, now);
     let is_out = outgoing.is_out();
@@ -266,7 +268,7 @@ fn post_to<S: System>(
     bytes: Vec<u8>,
     now: Duration,
 ) -> io::Result<()>
-    ensures posts { PostsTo S.Stream.raw_fd addresses.items bytes.items leaving.old.items (S.calls system.old) result leaving.new.items (S.calls system.new) }
+    ensures posts { HasRead now (S.calls system.old) → PostsTo S.Stream.raw_fd addresses.items bytes.items leaving.old.items (S.calls system.old) result leaving.new.items (S.calls system.new) }
     ensures within { Within leaving.old.items → Within leaving.new.items }
 {
     if !has_room_to(leaving, addresses.first().copied(), bytes.len()) {
@@ -289,6 +291,7 @@ fn begin_post<S: System>(
     ensures posts { Posts S.Stream.raw_fd departures.old.names.names.items host.now port bytes.now departures.old.leaving.items (S.calls system.old) result departures.new.leaving.items (S.calls system.new) }
     ensures same { departures.new.lost ≡ departures.old.lost }
     ensures within { Within departures.old.leaving.items → Within departures.new.leaving.items }
+    ensures kept { AreAnswered (S.calls system.old) departures.old.names.names.items → AreAnswered (S.calls system.new) departures.new.names.names.items }
 {
     let Ok(addresses) = resolved_names::addresses(system, &mut departures.names, host, port) else {
         return Err(ErrorKind::HostUnreachable.into());
@@ -314,6 +317,7 @@ pub(crate) fn post<S: System>(
     ensures posts { Posts S.Stream.raw_fd departures.old.names.names.items host.now port bytes.now departures.old.leaving.items (S.calls system.old) result departures.new.leaving.items (S.calls system.new) }
     ensures lost { Tallied departures.old.lost departures.new.lost result }
     ensures within { Within departures.old.leaving.items → Within departures.new.leaving.items }
+    ensures kept { AreAnswered (S.calls system.old) departures.old.names.names.items → AreAnswered (S.calls system.new) departures.new.names.names.items }
 {
     let posted = begin_post(system, departures, host, port, bytes);
     if posted.is_err() {
@@ -332,7 +336,7 @@ fn hand_over<S: System>(
     done: usize,
 ) -> io::Result<()>
     ensures answers { Answers S.Stream.raw_fd stream bytes done departures.old.leaving.items (S.calls system.old) result departures.new.leaving.items (S.calls system.new) }
-    ensures same { departures.new.lost ≡ departures.old.lost }
+    ensures same { (departures.new.lost ≡ departures.old.lost) × (departures.new.names ≡ departures.old.names) }
     ensures within { Within departures.old.leaving.items → Within departures.new.leaving.items }
 {
     let is_out = is_taken(&bytes, done);
@@ -358,6 +362,7 @@ pub(crate) fn answer<S: System>(
     ensures answers { (result : Result (Unit {0}) Error) × Answers S.Stream.raw_fd stream bytes done departures.old.leaving.items (S.calls system.old) result departures.new.leaving.items (S.calls system.new)
         × Tallied departures.old.lost departures.new.lost result }
     ensures within { Within departures.old.leaving.items → Within departures.new.leaving.items }
+    ensures names { departures.new.names ≡ departures.old.names }
 {
     if hand_over(system, departures, stream, bytes, done).is_err() {
         count_one(&mut departures.lost);
@@ -392,7 +397,7 @@ fn go_at<S: System>(
     now: Duration,
 )
     requires { place < length leaving.old.items }
-    ensures { WentAt S.Stream.raw_fd place leaving.old.items (S.calls system.old) leaving.new.items (S.calls system.new) }
+    ensures { WentAt S.Stream.raw_fd now place leaving.old.items (S.calls system.old) leaving.new.items (S.calls system.new) }
 {
     let outgoing = &mut leaving[place];
     outgoing::go(system, outgoing, now);
@@ -401,7 +406,7 @@ fn go_at<S: System>(
 /// Lets each go on.
 #[tactic(auto, using(crate::proofs::DepartureLists::none_advance, crate::proofs::DepartureLists::all_advance))]
 fn go_each<S: System>(system: &mut S, leaving: &mut Vec<Outgoing<S::Stream>>, now: Duration)
-    ensures { Advances S.Stream.raw_fd (S.calls system.old) leaving.old.items leaving.new.items (S.calls system.new) }
+    ensures { Advances S.Stream.raw_fd now (S.calls system.old) leaving.old.items leaving.new.items (S.calls system.new) }
 {
     'places: for place in 0..leaving.len() {
         go_at(system, leaving, place, now);
@@ -414,10 +419,11 @@ pub(crate) fn advance<S: System>(
     departures: &mut Departures<S::Stream>,
     now: Duration,
 )
-    ensures advances { (went : List (Outgoing S.Stream)) × Advances S.Stream.raw_fd (S.calls system.old) departures.old.leaving.items went (S.calls system.new)
+    ensures advances { (went : List (Outgoing S.Stream)) × Advances S.Stream.raw_fd now (S.calls system.old) departures.old.leaving.items went (S.calls system.new)
         × (departures.new.leaving.items ≡ filter (λ o. not (is_over o)) went)
         × (departures.new.lost ≡ capped (departures.old.lost + length (filter is_lost went))) }
     ensures within { Within departures.old.leaving.items → Within departures.new.leaving.items }
+    ensures names { departures.new.names ≡ departures.old.names }
 {
     go_each(system, &mut departures.leaving, now);
     departures.lost = departures

@@ -6,6 +6,7 @@ ghost use Rattle.atx_sites.specs.Disks.{Tallied, IfHeld, file_at, other_at};
 ghost use Rattle.atx_sites.specs.FileCalls.{IfBoth, Raises, Reads, Sized, Syncs, Writes};
 ghost use Rattle.atx_sites.specs.Files.{is_lost, number_of};
 ghost use Rattle.atx_sites.specs.Failures.{Ends, Tells, TellsOne};
+ghost use Rattle.atx_sites.specs.LinkCalls.{Later};
 ghost use Rattle.atx_sites.specs.declared.troubles.Step.TheVariants as steps;
 
 use crate::faults::{noted, refused};
@@ -43,12 +44,14 @@ impl<F> Disk<F> {
 }
 
 /// Both files of a journal. Their folder is made last too, as they may be new in it.
+#[tactic(auto, using(crate::proofs::Comings::as_late, crate::proofs::Comings::later_still, crate::proofs::Tellings::long_name))]
 fn open_both<S: System>(
     system: &mut S,
     journal: &str,
 ) -> Result<(Held<S::File>, Held<S::File>), Trouble>
     ensures sure { IfOk result (λ p. (p.0.is_lost ≡ false) × (p.1.is_lost ≡ false)) }
     ensures calls { IfBoth S.File.raw_fd journal.now result (S.calls system.old) (S.calls system.new) }
+    ensures later { Later (S.calls system.old) (S.calls system.new) }
     ensures fault { IfErr result (λ t. Ends None t.step t.fault (S.calls system.new)) }
 {
     let mut buf = [0u8; 4096];
@@ -84,6 +87,7 @@ pub fn open<S: System>(
     ensures counted { Tallied disk.old.disk disk.new.disk result }
     ensures gate { disk.new.gate ≡ disk.old.gate }
     ensures calls { IfHeld S.File.raw_fd journal.now result disk.new (S.calls system.old) (S.calls system.new) }
+    ensures later { Later (S.calls system.old) (S.calls system.new) }
     ensures told { TellsOne None result trouble.old trouble.new (S.calls system.new) }
 {
     disk.first = None;

@@ -29,6 +29,14 @@ pub(crate) enum Stage {
     Foreign,
 }
 
+/// How far a request has come, and whether its client waits for the interim answer before it sends the body (RFC 9110,
+/// section 10.1.1).
+#[derive(Clone, Copy, Debug, PartialEq, Eq)]
+pub(crate) struct Progress {
+    pub(crate) stage: Stage,
+    pub(crate) waits: bool,
+}
+
 /// The number that a value writes in decimal. None where it writes none, or one of more than nine digits.
 fn number(value: &[u8]) -> Option<usize> {
     if value.is_empty() || value.len() > 9 {
@@ -102,15 +110,14 @@ fn said_by(bytes: &[u8], places: &[HeaderSpan]) -> Said {
     said
 }
 
-/// What comes behind a whole head. One of a web page isn't read further. A request that is no post, or whose body ends
-/// nowhere, is refused by its head; one that waits for an interim answer has no more before that.
-fn behind_head(bytes: &[u8], head: &RequestSpans, places: &[HeaderSpan]) -> Stage {
-    let said = said_by(bytes, places);
+/// What comes behind a whole head that says this. One of a web page isn't read further. A request that is no post, or whose
+/// body ends nowhere, is refused by its head.
+fn behind_head(bytes: &[u8], head: &RequestSpans, said: Said) -> Stage {
     if said.is_foreign {
         return Stage::Foreign;
     }
     let is_post = between(bytes, head.method.start, head.method.end) == b"POST".as_slice();
-    if !is_post || said.is_refused || said.waits && head.version == 1 {
+    if !is_post || said.is_refused {
         return Stage::Whole;
     }
     match (said.length, said.is_chunked) {
@@ -122,15 +129,22 @@ fn behind_head(bytes: &[u8], head: &RequestSpans, places: &[HeaderSpan]) -> Stag
     }
 }
 
-fn next_of_head(bytes: &[u8], places: &mut [HeaderSpan]) -> Option<Stage> {
+fn next_of_head(bytes: &[u8], places: &mut [HeaderSpan]) -> Option<Progress> {
     let front = between(bytes, 0, bytes.len().min(HEAD_BYTES));
     match parse_request(front, places) {
         Ok(Status::Complete(head)) => {
             let count = head.headers.min(places.len());
-            Some(behind_head(front, &head, &places[..count]))
+            let said = said_by(front, &places[..count]);
+            Some(Progress {
+                stage: behind_head(front, &head, said),
+                waits: said.waits && head.version == 1,
+            })
         }
         Ok(Status::Partial) if bytes.len() < HEAD_BYTES => None,
-        _ => Some(Stage::Whole),
+        _ => Some(Progress {
+            stage: Stage::Whole,
+            waits: false,
+        }),
     }
 }
 
@@ -161,26 +175,39 @@ fn next_of_trailer(bytes: &[u8], at: usize) -> Option<Stage> {
     Some(Stage::Trailer(at.saturating_add(end).saturating_add(1)))
 }
 
-/// The stage behind one, by the bytes that are there. None where more are wanted.
-fn next(stage: Stage, bytes: &[u8], places: &mut [HeaderSpan]) -> Option<Stage> {
+/// The stage behind one of the body, by the bytes that are there. None where more are wanted.
+fn next_of_body(stage: Stage, bytes: &[u8]) -> Option<Stage> {
     match stage {
-        Stage::Head => next_of_head(bytes, places),
         Stage::Sized(count) if bytes.len() >= count => Some(Stage::Whole),
         Stage::Sized(_) => None,
         Stage::Chunk(at) => next_of_chunk(bytes, at),
         Stage::Trailer(at) => next_of_trailer(bytes, at),
-        Stage::Whole | Stage::Foreign => None,
+        Stage::Head | Stage::Whole | Stage::Foreign => None,
     }
 }
 
-/// How far a request has come that had come to a stage, now that these are its bytes. `places` is room for its fields.
-pub(crate) fn come_to(stage: Stage, bytes: &[u8], places: &mut [HeaderSpan]) -> Stage {
-    let mut stage = stage;
+/// How far it has come behind that, by the bytes that are there. None where more are wanted.
+fn next(progress: Progress, bytes: &[u8], places: &mut [HeaderSpan]) -> Option<Progress> {
+    if let Stage::Head = progress.stage {
+        return next_of_head(bytes, places);
+    }
+    match next_of_body(progress.stage, bytes) {
+        Some(stage) => Some(Progress {
+            stage,
+            waits: progress.waits,
+        }),
+        None => None,
+    }
+}
+
+/// How far a request has come that had come so far, now that these are its bytes. `places` is room for its fields.
+pub(crate) fn come_to(progress: Progress, bytes: &[u8], places: &mut [HeaderSpan]) -> Progress {
+    let mut progress = progress;
     for _ in 0..u32::MAX {
-        match next(stage, bytes, places) {
-            Some(later) => stage = later,
-            None => return stage,
+        match next(progress, bytes, places) {
+            Some(later) => progress = later,
+            None => return progress,
         }
     }
-    stage
+    progress
 }

@@ -2,14 +2,16 @@
 
 ghost use Rattle.std.specs.Prelude.{◌≡◌, ◌≤◌, ◌<◌, ◌+◌, [], true, false, length, take, drop, None, IfOk, IsErr, OnOk, OnErr, Ok};
 ghost use Rattle.shown_pages.specs.Quiet.{Quiet};
-ghost use Rattle.site_model.specs.Calls.{Attaches, Closes, Gave, Looked, Raised, Received, Synced, Takes, Wrote};
+ghost use Rattle.site_model.specs.Calls.{Attaches, Closes, Gave, Looked, Raised, Reads as ReadsTime, Received, Synced, Takes, Wrote};
 ghost use Rattle.site_model.specs.Counts.{capped};
 ghost use Rattle.site_model.specs.Told.{Files as Files_told, Is, file_of};
 ghost use Rattle.site_model.specs.Told.Call.{Post, Send};
 ghost use Rattle.site_model.specs.declared.site.Taken.TheVariants.{Opened};
-ghost use Rattle.atx_sites.specs.Arrivals.{Bounded, Gives, KeepsOn};
-ghost use Rattle.atx_sites.specs.Departures.{Within};
-ghost use Rattle.atx_sites.specs.Resends.{PostsOrHolds};
+ghost use Rattle.atx_sites.specs.Arrivals.{Gives, KeepsOn};
+ghost use Rattle.atx_sites.specs.Machines.{Holds};
+ghost use Rattle.atx_sites.specs.Resends.{PostsOrHolds, TellsTime};
+ghost use Rattle.atx_sites.specs.Turns.{EndsTurn};
+ghost use Rattle.atx_sites.specs.Waits.{Changes, IfAllOnTime, IfInTime};
 ghost use Rattle.atx_sites.specs.Disks.{Tallied, file_at, other_at};
 ghost use Rattle.atx_sites.specs.FileCalls.{Raises, Reads, Sized, Syncs, Writes};
 ghost use Rattle.atx_sites.specs.Files.{is_lost, number_of};
@@ -22,7 +24,7 @@ use crate::connection::{self, Connection};
 use crate::departures::{self, Departures};
 use crate::disk::{self, Disk};
 use crate::faults::{counted, noted};
-use crate::resends::is_held;
+use crate::resends::{is_held, millis};
 use crate::troubles::{Line, Step, Trouble};
 use resend_delays::delays::Delays;
 use shown_pages::page::Counts;
@@ -80,6 +82,7 @@ impl<S: System + Drop> NodeSite<S> {
         ensures names { result.attached.names ≡ [] }
         ensures trouble { result.trouble ≡ None }
         ensures aside { (result.connection.waiting.arriving.items ≡ []) × (result.departures.leaving.items ≡ []) }
+        ensures holds { Holds S.Stream.raw_fd S.Listener.raw_fd (S.calls result.system) result.connection result.departures }
     {
         NodeSite {
             alloc,
@@ -122,7 +125,9 @@ impl<S: System + Drop> NodeSite<S> {
     }
 
     /// From now on a turn in which nothing comes begins by itself, where no connection's turn came for so many milliseconds.
-    pub fn keep_time(&mut self, millis: u64) {
+    pub fn keep_time(&mut self, millis: u64)
+        ensures { self.new ≡ record self.old { every = self.new.every } }
+    {
         self.every = Some(Duration::from_millis(millis));
     }
 
@@ -135,9 +140,10 @@ impl<S: System + Drop> NodeSite<S> {
     pub fn leave(&mut self)
         ensures shut { self.new.connection.served ≡ None }
         ensures aside { self.new.connection.waiting ≡ self.old.connection.waiting }
+        ensures holds { Holds S.Stream.raw_fd S.Listener.raw_fd (S.calls self.old.system) self.old.connection self.old.departures → Holds S.Stream.raw_fd S.Listener.raw_fd (S.calls self.new.system) self.new.connection self.new.departures }
     {
         connection::close(&mut self.system, &mut self.connection, &mut self.departures);
-        let _ = connection::leave(
+        connection::leave(
             &mut self.system,
             &mut self.connection.asks,
             &mut self.departures,
@@ -159,7 +165,7 @@ impl<S: System + Drop> Site for NodeSite<S> {
         ensures tallied { Attempted self.old.disk.disk self.old.accept self.new.disk.disk self.new.accept result }
         ensures call { Attaches journal.now listen.now result (told_with self.old.disk self.old.accept self.old.receive self.old.link self.old.taken self.old.attached.names) (told_with self.new.disk self.new.accept self.new.receive self.new.link self.new.taken self.new.attached.names) }
         ensures told { TellsOne None result self.old.trouble self.new.trouble (S.calls self.new.system) }
-        ensures bounded { Bounded self.old.connection.waiting.arriving.items → Bounded self.new.connection.waiting.arriving.items }
+        ensures holds { Holds S.Stream.raw_fd S.Listener.raw_fd (S.calls self.old.system) self.old.connection self.old.departures → Holds S.Stream.raw_fd S.Listener.raw_fd (S.calls self.new.system) self.new.connection self.new.departures }
         ensures leaving { self.new.departures.leaving.items ≡ self.old.departures.leaving.items }
     {
         self.journal = kept(self.alloc, journal);
@@ -191,6 +197,7 @@ impl<S: System + Drop> Site for NodeSite<S> {
         ensures told { Tells (number_of S.File.raw_fd (file_at file self.old.disk)) (steps.Size file) result self.old.trouble self.new.trouble (S.calls self.new.system) }
         ensures aside { self.new.connection ≡ self.old.connection }
         ensures leaving { self.new.departures.leaving.items ≡ self.old.departures.leaving.items }
+        ensures holds { Holds S.Stream.raw_fd S.Listener.raw_fd (S.calls self.old.system) self.old.connection self.old.departures → Holds S.Stream.raw_fd S.Listener.raw_fd (S.calls self.new.system) self.new.connection self.new.departures }
     {
         disk::size(&mut self.system, &mut self.disk, &mut self.trouble, file)
     }
@@ -207,6 +214,7 @@ impl<S: System + Drop> Site for NodeSite<S> {
         ensures told { Tells (number_of S.File.raw_fd (file_at file self.old.disk)) (steps.Read file) result self.old.trouble self.new.trouble (S.calls self.new.system) }
         ensures aside { self.new.connection ≡ self.old.connection }
         ensures leaving { self.new.departures.leaving.items ≡ self.old.departures.leaving.items }
+        ensures holds { Holds S.Stream.raw_fd S.Listener.raw_fd (S.calls self.old.system) self.old.connection self.old.departures → Holds S.Stream.raw_fd S.Listener.raw_fd (S.calls self.new.system) self.new.connection self.new.departures }
     {
         disk::read(
             &mut self.system,
@@ -227,6 +235,7 @@ impl<S: System + Drop> Site for NodeSite<S> {
         ensures told { Tells (number_of S.File.raw_fd (file_at file self.old.disk)) (steps.Write file) result self.old.trouble self.new.trouble (S.calls self.new.system) }
         ensures aside { self.new.connection ≡ self.old.connection }
         ensures leaving { self.new.departures.leaving.items ≡ self.old.departures.leaving.items }
+        ensures holds { Holds S.Stream.raw_fd S.Listener.raw_fd (S.calls self.old.system) self.old.connection self.old.departures → Holds S.Stream.raw_fd S.Listener.raw_fd (S.calls self.new.system) self.new.connection self.new.departures }
     {
         disk::write_at(
             &mut self.system,
@@ -249,6 +258,7 @@ impl<S: System + Drop> Site for NodeSite<S> {
         ensures told { Tells (number_of S.File.raw_fd (file_at file self.old.disk)) (steps.Sync file) result self.old.trouble self.new.trouble (S.calls self.new.system) }
         ensures aside { self.new.connection ≡ self.old.connection }
         ensures leaving { self.new.departures.leaving.items ≡ self.old.departures.leaving.items }
+        ensures holds { Holds S.Stream.raw_fd S.Listener.raw_fd (S.calls self.old.system) self.old.connection self.old.departures → Holds S.Stream.raw_fd S.Listener.raw_fd (S.calls self.new.system) self.new.connection self.new.departures }
     {
         disk::sync(&mut self.system, &mut self.disk, &mut self.trouble, file)
     }
@@ -263,6 +273,7 @@ impl<S: System + Drop> Site for NodeSite<S> {
         ensures told { Tells (number_of S.File.raw_fd (file_at file self.old.disk)) (steps.Gate file) result self.old.trouble self.new.trouble (S.calls self.new.system) }
         ensures aside { self.new.connection ≡ self.old.connection }
         ensures leaving { self.new.departures.leaving.items ≡ self.old.departures.leaving.items }
+        ensures holds { Holds S.Stream.raw_fd S.Listener.raw_fd (S.calls self.old.system) self.old.connection self.old.departures → Holds S.Stream.raw_fd S.Listener.raw_fd (S.calls self.new.system) self.new.connection self.new.departures }
     {
         disk::raise_gate(
             &mut self.system,
@@ -281,8 +292,10 @@ impl<S: System + Drop> Site for NodeSite<S> {
         ensures tallied { Tallied self.old.accept self.new.accept result }
         ensures call { Takes result (told_with self.old.disk self.old.accept self.old.receive self.old.link self.old.taken self.old.attached.names) (told_with self.new.disk self.new.accept self.new.receive self.new.link self.new.taken self.new.attached.names) }
         ensures told { Tells (number_at S.Listener.raw_fd self.old.connection.listener) steps.Accept result self.old.trouble self.new.trouble (S.calls self.new.system) }
-        ensures bounded { Bounded self.old.connection.waiting.arriving.items → Bounded self.new.connection.waiting.arriving.items }
-        ensures within { Within self.old.departures.leaving.items → Within self.new.departures.leaving.items }
+        ensures holds { Holds S.Stream.raw_fd S.Listener.raw_fd (S.calls self.old.system) self.old.connection self.old.departures → Holds S.Stream.raw_fd S.Listener.raw_fd (S.calls self.new.system) self.new.connection self.new.departures }
+        ensures changes { Changes self.old.connection.waiting.arriving.items (S.calls self.old.system) self.new.connection.waiting.arriving.items (S.calls self.new.system) }
+        ensures in_time { IfInTime result self.new.connection.served self.new.connection.waiting.arriving.items (S.calls self.old.system) (S.calls self.new.system) }
+        ensures pace { IfAllOnTime result self.new.connection.served self.new.departures.leaving.items (S.calls self.old.system) (S.calls self.new.system) }
     {
         let opened = connection::take(
             &mut self.system,
@@ -307,6 +320,7 @@ impl<S: System + Drop> Site for NodeSite<S> {
         ensures call { Received result buf.new (told_with self.old.disk self.old.accept self.old.receive self.old.link self.old.taken self.old.attached.names) (told_with self.new.disk self.new.accept self.new.receive self.new.link self.new.taken self.new.attached.names) }
         ensures aside { self.new.connection.waiting ≡ self.old.connection.waiting }
         ensures leaving { self.new.departures.leaving.items ≡ self.old.departures.leaving.items }
+        ensures holds { Holds S.Stream.raw_fd S.Listener.raw_fd (S.calls self.old.system) self.old.connection self.old.departures → Holds S.Stream.raw_fd S.Listener.raw_fd (S.calls self.new.system) self.new.connection self.new.departures }
     {
         counted(
             &mut self.receive,
@@ -322,6 +336,7 @@ impl<S: System + Drop> Site for NodeSite<S> {
         ensures call { Gave (Send bytes.now) result (told_with self.old.disk self.old.accept self.old.receive self.old.link self.old.taken self.old.attached.names) (told_with self.new.disk self.new.accept self.new.receive self.new.link self.new.taken self.new.attached.names) }
         ensures aside { self.new.connection.waiting ≡ self.old.connection.waiting }
         ensures leaving { self.new.departures.leaving.items ≡ self.old.departures.leaving.items }
+        ensures holds { Holds S.Stream.raw_fd S.Listener.raw_fd (S.calls self.old.system) self.old.connection self.old.departures → Holds S.Stream.raw_fd S.Listener.raw_fd (S.calls self.new.system) self.new.connection self.new.departures }
     {
         counted(
             &mut self.link,
@@ -332,9 +347,10 @@ impl<S: System + Drop> Site for NodeSite<S> {
     fn close(&mut self)
         ensures shut { self.new.connection.served ≡ None }
         ensures same { (self.new.connection.listener ≡ self.old.connection.listener) × (self.new.disk ≡ self.old.disk) }
+        ensures answers { EndsTurn S.Stream.raw_fd self.old.connection.served self.old.departures.leaving.items self.old.departures.lost (S.calls self.old.system) self.new.departures.leaving.items self.new.departures.lost (S.calls self.new.system) }
         ensures call { Closes (told_with self.old.disk self.old.accept self.old.receive self.old.link self.old.taken self.old.attached.names) (told_with self.new.disk self.new.accept self.new.receive self.new.link self.new.taken self.new.attached.names) }
         ensures aside { self.new.connection.waiting ≡ self.old.connection.waiting }
-        ensures within { Within self.old.departures.leaving.items → Within self.new.departures.leaving.items }
+        ensures holds { Holds S.Stream.raw_fd S.Listener.raw_fd (S.calls self.old.system) self.old.connection self.old.departures → Holds S.Stream.raw_fd S.Listener.raw_fd (S.calls self.new.system) self.new.connection self.new.departures }
     {
         connection::close(&mut self.system, &mut self.connection, &mut self.departures);
     }
@@ -346,7 +362,7 @@ impl<S: System + Drop> Site for NodeSite<S> {
         ensures tallied { Tallied self.old.link self.new.link result }
         ensures call { Gave (Post host.now port bytes.now) result (told_with self.old.disk self.old.accept self.old.receive self.old.link self.old.taken self.old.attached.names) (told_with self.new.disk self.new.accept self.new.receive self.new.link self.new.taken self.new.attached.names) }
         ensures aside { self.new.connection ≡ self.old.connection }
-        ensures within { Within self.old.departures.leaving.items → Within self.new.departures.leaving.items }
+        ensures holds { Holds S.Stream.raw_fd S.Listener.raw_fd (S.calls self.old.system) self.old.connection self.old.departures → Holds S.Stream.raw_fd S.Listener.raw_fd (S.calls self.new.system) self.new.connection self.new.departures }
     {
         let request = connection::request(&self.connection);
         if is_held(
@@ -363,9 +379,14 @@ impl<S: System + Drop> Site for NodeSite<S> {
         counted(&mut self.link, answer)
     }
 
-    fn now(&mut self) -> u64 {
+    fn now(&mut self) -> u64
+        ensures clock { TellsTime result (S.calls self.old.system) (S.calls self.new.system) }
+        ensures call { ReadsTime result (told_with self.old.disk self.old.accept self.old.receive self.old.link self.old.taken self.old.attached.names) (told_with self.new.disk self.new.accept self.new.receive self.new.link self.new.taken self.new.attached.names) }
+        ensures aside { (self.new.connection ≡ self.old.connection) × (self.new.departures ≡ self.old.departures) }
+        ensures holds { Holds S.Stream.raw_fd S.Listener.raw_fd (S.calls self.old.system) self.old.connection self.old.departures → Holds S.Stream.raw_fd S.Listener.raw_fd (S.calls self.new.system) self.new.connection self.new.departures }
+    {
         match self.system.monotonic() {
-            Ok(time) => u64::try_from(time.as_millis()).unwrap_or(u64::MAX),
+            Ok(time) => millis(time),
             Err(_) => 0,
         }
     }
@@ -375,9 +396,9 @@ impl<S: System + Drop> Showing for NodeSite<S> {
     #[tactic(auto, using(crate::proofs::SilentMachines::quiet))]
     fn show<P: Pages>(&mut self, pages: &P)
         ensures call { Quiet (told_with self.old.disk self.old.accept self.old.receive self.old.link self.old.taken self.old.attached.names) (told_with self.new.disk self.new.accept self.new.receive self.new.link self.new.taken self.new.attached.names) }
-        ensures bounded { Bounded self.old.connection.waiting.arriving.items → Bounded self.new.connection.waiting.arriving.items }
-        ensures within { Within self.old.departures.leaving.items → Within self.new.departures.leaving.items }
         ensures served { self.new.connection.served ≡ self.old.connection.served }
+        ensures holds { Holds S.Stream.raw_fd S.Listener.raw_fd (S.calls self.old.system) self.old.connection self.old.departures → Holds S.Stream.raw_fd S.Listener.raw_fd (S.calls self.new.system) self.new.connection self.new.departures }
+        ensures changes { Changes self.old.connection.waiting.arriving.items (S.calls self.old.system) self.new.connection.waiting.arriving.items (S.calls self.new.system) }
     {
         if !self.connection.waiting.shows {
             return;

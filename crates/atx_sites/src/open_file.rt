@@ -2,10 +2,12 @@
 
 ghost use Rattle.std.specs.Prelude.{◌≡◌, [], ◌∷◌, true, false, None, IfErr, IfOk, IsErr, OnOk, OnErr};
 ghost use Rattle.std.specs.Io.{ReadsAtMost};
-ghost use Rattle.std.specs.IoError.{raw_os_error};
+ghost use Rattle.std.specs.IoError.{error_kind, raw_os_error};
+ghost use Rattle.std.specs.declared.io.ErrorKind.TheVariants as kinds;
 ghost use Rattle.atx_sites.specs.Files.{is_lost, number_of};
 ghost use Rattle.atx_sites.specs.FileCalls.{IfOpened, IfTaken, IfAlone, IfSynced, Sized, Reads, Writes, Syncs, Raises};
 ghost use Rattle.atx_sites.specs.Failures.{Ends};
+ghost use Rattle.atx_sites.specs.LinkCalls.{Later};
 ghost use Rattle.atx_sites.specs.declared.troubles.Step.TheVariants as steps;
 
 use crate::troubles::{Step, Trouble};
@@ -23,16 +25,18 @@ pub struct Held<F> {
 
 /// The error of a call on a file that isn't open.
 fn unopened() -> io::Error
-    ensures { raw_os_error result ≡ None }
+    ensures number { raw_os_error result ≡ None }
+    ensures kind { error_kind result ≡ kinds.NotFound }
 {
     io::Error::new(ErrorKind::NotFound, "it isn't open")
 }
 
 /// Opens a file for reading and writing, and makes it where it isn't there. What is meant for a standard stream that was
 /// closed doesn't land in it.
-#[tactic(auto, using(crate::proofs::Tellings::ended_open, crate::proofs::Tellings::ended_low))]
+#[tactic(auto, using(crate::proofs::Comings::as_late, crate::proofs::Comings::later_by, crate::proofs::Tellings::ended_open, crate::proofs::Tellings::ended_low))]
 fn open<S: System>(system: &mut S, name: &str) -> io::Result<S::File>
     ensures calls { IfOpened S.File.raw_fd name.now result (S.calls system.old) (S.calls system.new) }
+    ensures later { Later (S.calls system.old) (S.calls system.new) }
     ensures fault { IfErr result (λ e. Ends None (steps.Open 0) e (S.calls system.new)) }
 {
     let file = system.open(name)?;
@@ -45,9 +49,10 @@ fn open<S: System>(system: &mut S, name: &str) -> io::Result<S::File>
 
 /// Takes a regular file that no other process holds: locks it, makes it last, and has it read from the disk from now on, as
 /// an earlier process may have had a sync that failed.
-#[tactic(auto, using(crate::proofs::Tellings::ended_kind, crate::proofs::Tellings::ended_lock, crate::proofs::Tellings::ended_settle, crate::proofs::Tellings::ended_forget))]
+#[tactic(auto, using(crate::proofs::Comings::as_late, crate::proofs::Comings::later_by, crate::proofs::Tellings::ended_kind, crate::proofs::Tellings::not_regular, crate::proofs::Tellings::ended_lock, crate::proofs::Tellings::ended_settle, crate::proofs::Tellings::ended_forget))]
 fn take<S: System>(system: &mut S, file: &S::File, which: u8) -> Result<(), Trouble>
     ensures calls { IfTaken (S.File.raw_fd file.now) result (S.calls system.old) (S.calls system.new) }
+    ensures later { Later (S.calls system.old) (S.calls system.new) }
     ensures fault { IfErr result (λ t. Ends None t.step t.fault (S.calls system.new)) }
 {
     let kind = Step::Kind(which);
@@ -69,6 +74,7 @@ fn take<S: System>(system: &mut S, file: &S::File, which: u8) -> Result<(), Trou
 }
 
 /// Opens a regular file that no other process holds.
+#[tactic(auto, using(crate::proofs::Comings::later_still))]
 pub(crate) fn open_alone<S: System>(
     system: &mut S,
     name: &str,
@@ -76,6 +82,7 @@ pub(crate) fn open_alone<S: System>(
 ) -> Result<Held<S::File>, Trouble>
     ensures sure { IfOk result (λ h. h.is_lost ≡ false) }
     ensures calls { IfAlone S.File.raw_fd name.now result (S.calls system.old) (S.calls system.new) }
+    ensures later { Later (S.calls system.old) (S.calls system.new) }
     ensures fault { IfErr result (λ t. Ends None t.step t.fault (S.calls system.new)) }
 {
     let file = match open(system, name) {
@@ -92,9 +99,10 @@ pub(crate) fn open_alone<S: System>(
 }
 
 /// Makes last which files a folder has.
-#[tactic(auto, using(crate::proofs::Tellings::ended_name, crate::proofs::Tellings::ended_folder))]
+#[tactic(auto, using(crate::proofs::Comings::as_late, crate::proofs::Comings::later_by, crate::proofs::Tellings::ended_name, crate::proofs::Tellings::ended_folder))]
 pub(crate) fn sync_folder<S: System>(system: &mut S, name: &str) -> Result<(), Trouble>
     ensures calls { IfSynced name.now result (S.calls system.old) (S.calls system.new) }
+    ensures later { Later (S.calls system.old) (S.calls system.new) }
     ensures fault { IfErr result (λ t. Ends None t.step t.fault (S.calls system.new)) }
 {
     let folder = match system.open_folder(name) {
@@ -108,7 +116,7 @@ pub(crate) fn sync_folder<S: System>(system: &mut S, name: &str) -> Result<(), T
 }
 
 /// The bytes of a file.
-#[tactic(auto, using(crate::proofs::Tellings::ended_size))]
+#[tactic(auto, using(crate::proofs::Tellings::ended_size, crate::proofs::Tellings::shut_size))]
 pub(crate) fn size<S: System>(system: &mut S, held: &Option<Held<S::File>>) -> io::Result<u64>
     ensures shut { held.now ≡ None → IsErr result }
     ensures calls { Sized (number_of S.File.raw_fd held.now) result (S.calls system.old) (S.calls system.new) }
@@ -124,7 +132,7 @@ pub(crate) fn size<S: System>(system: &mut S, held: &Option<Held<S::File>>) -> i
 }
 
 /// Reads from a place on, and says how many bytes. What a signal interrupted is tried again.
-#[tactic(auto, using(crate::proofs::FilePieces::untried, crate::proofs::FilePieces::tried, crate::proofs::Tellings::ended_read))]
+#[tactic(auto, using(crate::proofs::FilePieces::untried, crate::proofs::FilePieces::tried, crate::proofs::Tellings::ended_read, crate::proofs::Tellings::read_cut_off))]
 fn read_file<S: System>(
     system: &mut S,
     file: &S::File,
@@ -146,7 +154,7 @@ fn read_file<S: System>(
 }
 
 /// Reads from a place on, and says how many bytes. Zero into a nonempty buffer is the end of the file.
-#[tactic(auto, using(crate::proofs::FilePieces::untried))]
+#[tactic(auto, using(crate::proofs::FilePieces::untried, crate::proofs::Tellings::shut_read))]
 pub(crate) fn read<S: System>(
     system: &mut S,
     held: &Option<Held<S::File>>,
@@ -165,7 +173,7 @@ pub(crate) fn read<S: System>(
 }
 
 /// Writes all bytes from a place on.
-#[tactic(auto, using(crate::proofs::FilePieces::unwritten, crate::proofs::FilePieces::some_unwritten, crate::proofs::FilePieces::some_written, crate::proofs::FilePieces::wrote_more, crate::proofs::FilePieces::wrote_none, crate::proofs::Tellings::ended_write))]
+#[tactic(auto, using(crate::proofs::FilePieces::unwritten, crate::proofs::FilePieces::some_unwritten, crate::proofs::FilePieces::some_written, crate::proofs::FilePieces::wrote_more, crate::proofs::FilePieces::wrote_none, crate::proofs::Tellings::ended_write, crate::proofs::Tellings::too_long, crate::proofs::Tellings::cut_off, crate::proofs::Tellings::took_none))]
 fn write_all<S: System>(system: &mut S, file: &S::File, at: u64, bytes: &[u8]) -> io::Result<()>
     ensures calls { Writes (S.File.raw_fd file.now) at bytes.now result (S.calls system.old) (S.calls system.new) }
     ensures fault { IfErr result (λ e. Ends (S.File.raw_fd file.now) (steps.Write 0) e (S.calls system.new)) }
@@ -192,7 +200,7 @@ fn write_all<S: System>(system: &mut S, file: &S::File, at: u64, bytes: &[u8]) -
 }
 
 /// Writes all bytes from a place on.
-#[tactic(auto, using(crate::proofs::FilePieces::some_unwritten))]
+#[tactic(auto, using(crate::proofs::FilePieces::some_unwritten, crate::proofs::Tellings::shut_write))]
 pub(crate) fn write<S: System>(
     system: &mut S,
     held: &Option<Held<S::File>>,
@@ -210,7 +218,7 @@ pub(crate) fn write<S: System>(
 }
 
 /// Makes last what was written, data and metadata.
-#[tactic(auto, using(crate::proofs::Tellings::ended_sync))]
+#[tactic(auto, using(crate::proofs::Tellings::ended_sync, crate::proofs::Tellings::shut_sync, crate::proofs::Tellings::lost_before))]
 pub(crate) fn sync<S: System>(system: &mut S, held: &mut Option<Held<S::File>>) -> io::Result<()>
     ensures lost { is_lost held.old ≡ true → IsErr result × (S.calls system.new ≡ S.calls system.old) }
     ensures done { OnOk result (is_lost held.new ≡ false) }

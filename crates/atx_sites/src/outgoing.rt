@@ -1,9 +1,12 @@
 //! One connection with bytes that leave.
 
-ghost use Rattle.std.specs.Prelude.{[], ◌≡◌, ◌≤◌, ℕ, List, length};
+ghost use Rattle.std.specs.Prelude.{[], ◌≡◌, ◌≤◌, ◌<◌, ◌⊎◌, ◌+◌, ◌*◌, ℕ, List, false, length, nat_lt, true};
+ghost use Rattle.std.specs.Duration.{as_nanos};
 ghost use Rattle.std.specs.declared.net.SocketAddr.{SocketAddr};
-ghost use Rattle.atx_sites.specs.Departures.{Begins, Goes, IfOut, is_lost, is_over};
+ghost use Rattle.atx_sites.specs.Departures.{Begins, Goes, GoesInTime, HasFive, IfOut, StaysInTime, is_last, is_lost, is_over, rank};
+ghost use Rattle.atx_sites.specs.Deadlines.{has_passed};
 
+use crate::deadlines::has_passed;
 use std::alloc::Global;
 use std::io::ErrorKind;
 use std::net::SocketAddr;
@@ -58,7 +61,9 @@ pub struct Outgoing<C> {
 }
 
 /// The time so many seconds from now.
-fn in_seconds(now: Duration, seconds: u64) -> Duration {
+fn in_seconds(now: Duration, seconds: u64) -> Duration
+    ensures { as_nanos result ≤ as_nanos now + seconds * 1_000_000_000 }
+{
     now.saturating_add(Duration::from_secs(seconds))
 }
 
@@ -71,7 +76,7 @@ impl<C: Drop> Outgoing<C> {
         bytes: Vec<u8>,
         now: Duration,
     ) -> Outgoing<C>
-        ensures { (result.stream ≡ stream) × (result.addresses ≡ addresses) × (result.bytes ≡ bytes) × (result.done ≡ 0) }
+        ensures { (result.stream ≡ stream) × (result.addresses ≡ addresses) × (result.bytes ≡ bytes) × (result.done ≡ 0) × HasFive now result }
     {
         Outgoing {
             stream,
@@ -93,7 +98,7 @@ impl<C: Drop> Outgoing<C> {
         done: usize,
         now: Duration,
     ) -> Outgoing<C>
-        ensures { (result.stream ≡ stream) × (result.bytes ≡ bytes) × (result.done ≡ done) × (result.addresses.items ≡ []) }
+        ensures { (result.stream ≡ stream) × (result.bytes ≡ bytes) × (result.done ≡ done) × (result.addresses.items ≡ []) × HasFive now result }
     {
         Outgoing {
             stream,
@@ -115,7 +120,9 @@ impl<C: Drop> Outgoing<C> {
     }
 
     /// What it is when nothing more is to be done.
-    fn closed(&self) -> Stage {
+    fn closed(&self) -> Stage
+        ensures { is_last result ≡ true }
+    {
         if self.is_out() {
             Stage::Over
         } else {
@@ -140,6 +147,13 @@ impl<C: Drop> Outgoing<C> {
     pub(crate) fn is_ending(&self) -> bool {
         matches!(self.stage, Stage::Ending)
     }
+}
+
+/// Whether its bytes are still to be sent.
+fn is_sending(stage: Stage) -> bool
+    ensures { result ≡ nat_lt (rank stage) 2 }
+{
+    matches!(stage, Stage::Connecting | Stage::Sending)
 }
 
 /// Whether so many are all bytes.
@@ -252,6 +266,7 @@ fn sending(before: Stage, done: usize, stands: bool) -> Stage {
 fn end<S: System>(system: &mut S, outgoing: &mut Outgoing<S::Stream>, now: Duration)
     ensures calls { length outgoing.old.bytes.items ≤ outgoing.old.done → Goes outgoing.old.addresses.items outgoing.old.bytes.items (S.Stream.raw_fd outgoing.old.stream) outgoing.old.done (S.calls system.old) (S.Stream.raw_fd outgoing.new.stream) outgoing.new.done (S.calls system.new) }
     ensures same { (outgoing.new.bytes ≡ outgoing.old.bytes) × (outgoing.new.addresses ≡ outgoing.old.addresses) }
+    ensures time { (2 ≤ rank outgoing.new.stage) × HasFive now outgoing.new }
 {
     outgoing.stage = Stage::Ending;
     if outgoing.shuts {
@@ -268,6 +283,7 @@ fn end<S: System>(system: &mut S, outgoing: &mut Outgoing<S::Stream>, now: Durat
 fn go_sending<S: System>(system: &mut S, outgoing: &mut Outgoing<S::Stream>, now: Duration)
     ensures calls { Goes outgoing.old.addresses.items outgoing.old.bytes.items (S.Stream.raw_fd outgoing.old.stream) outgoing.old.done (S.calls system.old) (S.Stream.raw_fd outgoing.new.stream) outgoing.new.done (S.calls system.new) }
     ensures same { (outgoing.new.bytes ≡ outgoing.old.bytes) × (outgoing.new.addresses ≡ outgoing.old.addresses) }
+    ensures time { rank outgoing.old.stage < 2 → StaysInTime now outgoing.old outgoing.new }
 {
     let stands = send(
         system,
@@ -282,18 +298,56 @@ fn go_sending<S: System>(system: &mut S, outgoing: &mut Outgoing<S::Stream>, now
         return;
     }
     let stage = sending(outgoing.stage, outgoing.done, stands);
-    if outgoing.stage == Stage::Connecting && stage == Stage::Sending {
-        outgoing.ends = in_seconds(now, SEND_SECONDS);
+    stand(outgoing, stage, now);
+}
+
+/// It came to a stage before its last byte: where the connection stands only now, its bytes have their time from now on.
+fn stand<C>(outgoing: &mut Outgoing<C>, stage: Stage, now: Duration)
+    ensures same { outgoing.new ≡ record outgoing.old { stage = stage; ends = outgoing.new.ends } }
+    ensures time { StaysInTime now outgoing.old outgoing.new }
+{
+    match (outgoing.stage, stage) {
+        (Stage::Connecting, Stage::Sending) => {
+            outgoing.ends = in_seconds(now, SEND_SECONDS);
+            outgoing.stage = Stage::Sending;
+        }
+        _ => outgoing.stage = stage,
     }
-    outgoing.stage = stage;
 }
 
 /// Reads away what can be read now.
 fn go_ending<S: System>(system: &mut S, outgoing: &mut Outgoing<S::Stream>)
     ensures calls { Goes outgoing.old.addresses.items outgoing.old.bytes.items (S.Stream.raw_fd outgoing.old.stream) outgoing.old.done (S.calls system.old) (S.Stream.raw_fd outgoing.new.stream) outgoing.new.done (S.calls system.new) }
     ensures same { (outgoing.new.bytes ≡ outgoing.old.bytes) × (outgoing.new.addresses ≡ outgoing.old.addresses) }
+    ensures time { (outgoing.new.ends ≡ outgoing.old.ends) × (rank outgoing.old.stage ≤ rank outgoing.new.stage) }
 {
     if !outgoing.is_out() || !read_away(system, &outgoing.stream) {
+        outgoing.stage = outgoing.closed();
+    }
+}
+
+/// Sends or reads away what can be now.
+fn go_on<S: System>(system: &mut S, outgoing: &mut Outgoing<S::Stream>, now: Duration)
+    ensures calls { Goes outgoing.old.addresses.items outgoing.old.bytes.items (S.Stream.raw_fd outgoing.old.stream) outgoing.old.done (S.calls system.old) (S.Stream.raw_fd outgoing.new.stream) outgoing.new.done (S.calls system.new) }
+    ensures same { (outgoing.new.bytes ≡ outgoing.old.bytes) × (outgoing.new.addresses ≡ outgoing.old.addresses) }
+    ensures time { StaysInTime now outgoing.old outgoing.new }
+{
+    if is_sending(outgoing.stage) {
+        go_sending(system, outgoing, now);
+    }
+    if outgoing.is_ending() {
+        go_ending(system, outgoing);
+    }
+}
+
+/// Gives it up where its time is over.
+fn give_up<C: Drop>(outgoing: &mut Outgoing<C>, now: Duration)
+    ensures same { outgoing.new ≡ record outgoing.old { stage = outgoing.new.stage } }
+    ensures rank { rank outgoing.old.stage ≤ rank outgoing.new.stage }
+    ensures late { is_over outgoing.new ≡ false → has_passed now outgoing.new.ends ≡ false }
+    ensures early { has_passed now outgoing.old.ends ≡ false → outgoing.new ≡ outgoing.old }
+{
+    if has_passed(outgoing.ends, now) && !outgoing.is_over() {
         outgoing.stage = outgoing.closed();
     }
 }
@@ -302,14 +356,8 @@ fn go_ending<S: System>(system: &mut S, outgoing: &mut Outgoing<S::Stream>)
 pub(crate) fn go<S: System>(system: &mut S, outgoing: &mut Outgoing<S::Stream>, now: Duration)
     ensures calls { Goes outgoing.old.addresses.items outgoing.old.bytes.items (S.Stream.raw_fd outgoing.old.stream) outgoing.old.done (S.calls system.old) (S.Stream.raw_fd outgoing.new.stream) outgoing.new.done (S.calls system.new) }
     ensures same { (outgoing.new.bytes ≡ outgoing.old.bytes) × (outgoing.new.addresses ≡ outgoing.old.addresses) }
+    ensures time { GoesInTime now outgoing.old outgoing.new }
 {
-    if matches!(outgoing.stage, Stage::Connecting | Stage::Sending) {
-        go_sending(system, outgoing, now);
-    }
-    if outgoing.is_ending() {
-        go_ending(system, outgoing);
-    }
-    if outgoing.ends <= now && !outgoing.is_over() {
-        outgoing.stage = outgoing.closed();
-    }
+    go_on(system, outgoing, now);
+    give_up(outgoing, now);
 }

@@ -1,16 +1,20 @@
 //! Pages, which are shown beside the turns to who asks for them.
 
+ghost use Rattle.std.specs.Prelude.{◌≡◌, All, List};
 ghost use Rattle.atx_sites.specs.Arrivals.{Bounded, HaveCome};
-ghost use Rattle.atx_sites.specs.Departures.{Within};
-ghost use Rattle.atx_sites.specs.LinkCalls.{Later};
-ghost use Rattle.system_calls.specs.Calls.{Number};
+ghost use Rattle.atx_sites.specs.Departures.{IsTimed, Within};
+ghost use Rattle.atx_sites.specs.LinkCalls.{Later, ReadsClock};
+ghost use Rattle.atx_sites.specs.Waits.{Changes};
+ghost use Rattle.atx_sites.specs.declared.arriving.Arriving.{Arriving as Arrives};
+ghost use Rattle.system_calls.specs.Calls.{Calls, Number};
 
 use crate::arriving::Arriving;
 use crate::departures::{self, Departures};
-use crate::waiting::{self, Waiting};
+use crate::waiting::Waiting;
 use shown_pages::page::{Counts, Page};
 use shown_pages::pages::Pages;
 use std::alloc::{AllocError, Global};
+use std::time::Duration;
 use system_calls::system::System;
 
 /// Which page a request asks for, by its first line (RFC 9112, section 3).
@@ -69,6 +73,8 @@ fn show<S: System, P: Pages>(
 )
     ensures later { Later (S.calls system.old) (S.calls system.new) }
     ensures within { Within departures.old.leaving.items → Within departures.new.leaving.items }
+    ensures timed { All (IsTimed (S.calls system.old)) departures.old.leaving.items → All (IsTimed (S.calls system.new)) departures.new.leaving.items }
+    ensures names { departures.new.names ≡ departures.old.names }
 {
     let Some(page) = page_of(arriving.bytes.as_slice()) else {
         return;
@@ -79,25 +85,28 @@ fn show<S: System, P: Pages>(
     }
 }
 
-/// Shows their pages to all that ask for them.
-#[tactic(auto, using(crate::proofs::Comings::as_late, crate::proofs::Comings::later_still, crate::proofs::Comings::have_still))]
-pub(crate) fn show_all<S: System, P: Pages>(
+/// Shows its page to the first that asks for one. Whether there was one.
+#[tactic(auto, using(crate::proofs::Comings::as_late, crate::proofs::Comings::have_still))]
+pub(crate) fn show_next<S: System, P: Pages>(
     system: &mut S,
     waiting: &mut Waiting<S::Stream>,
     departures: &mut Departures<S::Stream>,
+    now: Duration,
     pages: &P,
     counts: &Counts,
-)
+) -> bool
     ensures came { (listener : Number) → HaveCome S.Stream.raw_fd listener (S.calls system.old) waiting.old.arriving.items → HaveCome S.Stream.raw_fd listener (S.calls system.new) waiting.new.arriving.items }
     ensures later { Later (S.calls system.old) (S.calls system.new) }
     ensures bounded { Bounded waiting.old.arriving.items → Bounded waiting.new.arriving.items }
     ensures within { Within departures.old.leaving.items → Within departures.new.leaving.items }
+    ensures changes { (first : List (Arrives S.Stream)) (start : Calls) → ReadsClock now start (S.calls system.old) → Changes first start waiting.old.arriving.items (S.calls system.old) → Changes first start waiting.new.arriving.items (S.calls system.new) }
+    ensures timed { All (IsTimed (S.calls system.old)) departures.old.leaving.items → All (IsTimed (S.calls system.new)) departures.new.leaving.items }
+    ensures names { departures.new.names ≡ departures.old.names }
 {
     let alloc = waiting.alloc();
-    'pages: for _ in 0..waiting::MOST {
-        let Some(asking) = waiting.asking() else {
-            return;
-        };
-        show(system, departures, alloc, asking, pages, counts);
-    }
+    let Some(asking) = waiting.ready(now, true) else {
+        return false;
+    };
+    show(system, departures, alloc, asking, pages, counts);
+    true
 }

@@ -49,7 +49,7 @@ fn is_named(alloc: Global, request: &[u8], host: &str, port: u16, bytes: &[u8]) 
 }
 
 /// A time in milliseconds; the most that there are where it has more.
-fn millis(time: Duration) -> u64
+pub(crate) fn millis(time: Duration) -> u64
     ensures { IsMillis time result }
 {
     match u64::try_from(time.as_millis()) {

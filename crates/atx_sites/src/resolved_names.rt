@@ -1,6 +1,6 @@
 //! Names of hosts that were looked up.
 
-ghost use Rattle.std.specs.Prelude.{◌≡◌, ◌<◌, ◌≤◌, ◌+◌, ◌++◌, ℕ, List, IfOk, IfSome, OnOk, length, slice_index_or, true};
+ghost use Rattle.std.specs.Prelude.{[], ◌≡◌, ◌<◌, ◌≤◌, ◌+◌, ◌++◌, ℕ, List, IfOk, IfSome, OnOk, length, slice_index_or, true};
 ghost use Rattle.std.specs.Duration.{as_nanos};
 ghost use Rattle.std.specs.Net.Grammar.{IsIpText};
 ghost use Rattle.std.specs.Net.ToAddrs.{host_addrs};
@@ -53,7 +53,9 @@ pub struct ResolvedNames {
 }
 
 impl ResolvedNames {
-    pub(crate) fn new(alloc: Global) -> ResolvedNames {
+    pub(crate) fn new(alloc: Global) -> ResolvedNames
+        ensures { result.names.items ≡ [] }
+    {
         ResolvedNames {
             alloc,
             names: Vec::new(alloc),

@@ -1,7 +1,7 @@
 //! What failed last, and why.
 
 ghost use Rattle.std.specs.Prelude.{◌≡◌, None};
-ghost use Rattle.std.specs.IoError.{raw_os_error};
+ghost use Rattle.std.specs.IoError.{error_kind, raw_os_error};
 
 use std::fmt::{self, Display, Formatter, Write};
 use std::io::{self, ErrorKind};
@@ -49,7 +49,7 @@ impl Trouble {
 
     /// One that no call of the system gave.
     pub(crate) fn own(step: Step, kind: ErrorKind, words: &str) -> Trouble
-        ensures { (result.step ≡ step) × (raw_os_error result.fault ≡ None) }
+        ensures { (result.step ≡ step) × (raw_os_error result.fault ≡ None) × (error_kind result.fault ≡ kind) }
     {
         Trouble {
             step,

@@ -1,14 +1,17 @@
 //! Connections that are read aside, each until its turn.
 
-ghost use Rattle.std.specs.Prelude.{◌<◌, ◌≤◌, ◌-◌, [], true, ◌≡◌, IfErr, IfSome, length};
+ghost use Rattle.std.specs.Prelude.{◌<◌, ◌≤◌, ◌-◌, [], true, false, List, ◌≡◌, All, IfErr, IfSome, filter, length, not, slice_index_or};
 ghost use Rattle.std.specs.List.{sum_by};
+ghost use Rattle.std.specs.declared.time.Duration.{Duration};
 ghost use Rattle.system_calls.specs.Calls.{Calls, Number};
-ghost use Rattle.atx_sites.specs.Arrivals.{Bounded, HasCome, HaveCome, IfCame, size_of};
-ghost use Rattle.atx_sites.specs.LinkCalls.{Came, Later};
+ghost use Rattle.atx_sites.specs.Arrivals.{Bounded, HasCome, HaveCome, IfCame, is_coming, is_ready, is_silent, size_of};
+ghost use Rattle.atx_sites.specs.LinkCalls.{Came, Later, ReadsClock};
+ghost use Rattle.atx_sites.specs.Waits.{Changes, HasTen};
+ghost use Rattle.atx_sites.specs.declared.arriving.Arriving.{Arriving};
 ghost use Rattle.atx_sites.specs.Failures.{Ends};
 ghost use Rattle.atx_sites.specs.declared.troubles.Step.TheVariants as steps;
 
-use crate::arriving::{Arriving, asked, read_aside};
+use crate::arriving::{self, Arriving, asked, asked_of};
 use crate::deadlines::earlier;
 use crate::framing::FIELDS;
 use httparse::spans::{EMPTY_HEADER_SPAN, HeaderSpan};
@@ -118,51 +121,35 @@ impl<C: AsRawFd + Drop> Waiting<C> {
     pub(crate) fn asks(&self, listener: i32, asks: &mut Vec<pollfd>) -> Result<(), AllocError> {
         asks.push(asked(if self.pause.is_none() { listener } else { -1 }))?;
         for arriving in self.arriving.iter() {
-            asks.push(asked(arriving.stream.as_raw_fd()))?;
+            asks.push(asked_of(arriving))?;
         }
         Ok(())
     }
 
     /// Closes those whose time is over without a byte.
-    #[tactic(auto, using(crate::proofs::Comings::have_removed))]
     fn close_silent(&mut self, now: Duration)
-        ensures came { (number : C → Number) (listener : Number) (calls : Calls) → HaveCome number listener calls self.old.arriving.items → HaveCome number listener calls self.new.arriving.items }
-        ensures bounded { Bounded self.old.arriving.items → Bounded self.new.arriving.items }
+        ensures { self.new.arriving.items ≡ filter (λ a. not (is_silent now a)) self.old.arriving.items }
     {
-        'silent: for _ in 0..MOST {
-            match place_of_silent(self.arriving.as_slice(), now) {
-                Some(place) => drop(self.arriving.remove(place)),
-                None => return,
-            }
-        }
+        self.arriving.retain(|arriving| !arriving.is_silent(now));
     }
 
     /// Whether the turn of one may come.
     pub(crate) fn has_ready(&self, now: Duration) -> bool {
-        place_of_ready(self.arriving.as_slice(), self.shows, now).is_some()
+        place_of_ready(self.arriving.as_slice(), self.shows, false, now).is_some()
     }
 
-    /// The first whose turn may come.
+    /// The first whose turn may come, or that asks for a page.
     #[tactic(auto, using(crate::proofs::Comings::have_removed, crate::proofs::Comings::has_taken))]
-    pub(crate) fn ready(&mut self, now: Duration) -> Option<Arriving<C>>
+    pub(crate) fn ready(&mut self, now: Duration, pages: bool) -> Option<Arriving<C>>
         ensures came { (number : C → Number) (listener : Number) (calls : Calls) → HaveCome number listener calls self.old.arriving.items → HaveCome number listener calls self.new.arriving.items }
         ensures taken { (number : C → Number) (listener : Number) (calls : Calls) → HaveCome number listener calls self.old.arriving.items → IfSome result (HasCome number listener calls) }
         ensures bounded { Bounded self.old.arriving.items → Bounded self.new.arriving.items }
+        ensures changes { (first : List (Arriving C)) (start calls : Calls) → ReadsClock now start calls → Changes first start self.old.arriving.items calls → Changes first start self.new.arriving.items calls }
+        ensures ready { IfSome result (λ a. is_ready now a ≡ true) }
+        ensures silent { All (λ a. is_silent now a ≡ false) self.new.arriving.items }
     {
         self.close_silent(now);
-        match place_of_ready(self.arriving.as_slice(), self.shows, now) {
-            Some(place) => Some(self.arriving.remove(place)),
-            None => None,
-        }
-    }
-
-    /// The first that asks for a page.
-    #[tactic(auto, using(crate::proofs::Comings::have_removed, crate::proofs::Comings::has_taken))]
-    pub(crate) fn asking(&mut self) -> Option<Arriving<C>>
-        ensures came { (number : C → Number) (listener : Number) (calls : Calls) → HaveCome number listener calls self.old.arriving.items → HaveCome number listener calls self.new.arriving.items }
-        ensures bounded { Bounded self.old.arriving.items → Bounded self.new.arriving.items }
-    {
-        match place_of_asking(self.arriving.as_slice()) {
+        match place_of_ready(self.arriving.as_slice(), self.shows, pages, now) {
             Some(place) => Some(self.arriving.remove(place)),
             None => None,
         }
@@ -185,6 +172,7 @@ impl<C: AsRawFd + Drop> Waiting<C> {
         ensures came { (number : C → Number) (listener : Number) (calls : Calls) → HaveCome number listener calls self.old.arriving.items → HaveCome number listener calls self.new.arriving.items }
         ensures bounded { Bounded self.old.arriving.items → Bounded self.new.arriving.items }
         ensures room { Bounded self.old.arriving.items → result ≡ true → length self.new.arriving.items < 1_024 }
+        ensures changes { (first : List (Arriving C)) (start calls : Calls) → ReadsClock now start calls → Changes first start self.old.arriving.items calls → Changes first start self.new.arriving.items calls }
     {
         if self.arriving.len() < MOST {
             return true;
@@ -203,6 +191,7 @@ impl<C: AsRawFd + Drop> Waiting<C> {
     fn keep(&mut self, arriving: Arriving<C>, now: Duration)
         ensures came { (number : C → Number) (listener : Number) (calls : Calls) → HaveCome number listener calls self.old.arriving.items → HasCome number listener calls arriving → HaveCome number listener calls self.new.arriving.items }
         ensures bounded { Bounded self.old.arriving.items → size_of arriving ≤ 131_072 → Bounded self.new.arriving.items }
+        ensures changes { (first : List (Arriving C)) (start calls : Calls) → ReadsClock now start calls → HasTen now arriving → Changes first start self.old.arriving.items calls → Changes first start self.new.arriving.items calls }
     {
         if self.has_room(now) && arriving.bytes.len() <= self.room() {
             let _ = self.arriving.push(arriving);
@@ -210,36 +199,17 @@ impl<C: AsRawFd + Drop> Waiting<C> {
     }
 }
 
-/// The first whose time is over without a byte.
-fn place_of_silent<C>(arrivals: &[Arriving<C>], now: Duration) -> Option<usize>
-    ensures { IfSome result (λ i. i < length arrivals.now) }
+/// The first whose turn may come, or that asks for a page where pages are shown. Such a one has no turn then.
+fn place_of_ready<C>(
+    arrivals: &[Arriving<C>],
+    shows: bool,
+    pages: bool,
+    now: Duration,
+) -> Option<usize>
+    ensures { IfSome result (λ i. (i < length arrivals.now) × ((d : Arriving C) → is_ready now (slice_index_or arrivals.now i d) ≡ true)) }
 {
     for i in 0..arrivals.len() {
-        if arrivals[i].is_silent(now) {
-            return Some(i);
-        }
-    }
-    None
-}
-
-/// The first whose turn may come. Where pages are shown, who asks for one has none.
-fn place_of_ready<C>(arrivals: &[Arriving<C>], shows: bool, now: Duration) -> Option<usize>
-    ensures { IfSome result (λ i. i < length arrivals.now) }
-{
-    for i in 0..arrivals.len() {
-        if arrivals[i].is_ready(now) && !(shows && arrivals[i].asks_page()) {
-            return Some(i);
-        }
-    }
-    None
-}
-
-/// The first that asks for a page.
-fn place_of_asking<C>(arrivals: &[Arriving<C>]) -> Option<usize>
-    ensures { IfSome result (λ i. i < length arrivals.now) }
-{
-    for i in 0..arrivals.len() {
-        if arrivals[i].asks_page() {
+        if arrivals[i].is_ready(now) && pages == (shows && arrivals[i].asks_page()) {
             return Some(i);
         }
     }
@@ -248,7 +218,7 @@ fn place_of_asking<C>(arrivals: &[Arriving<C>]) -> Option<usize>
 
 /// The first whose turn can't come yet.
 fn place_of_coming<C>(arrivals: &[Arriving<C>], now: Duration) -> Option<usize>
-    ensures { IfSome result (λ i. i < length arrivals.now) }
+    ensures { IfSome result (λ i. (i < length arrivals.now) × ((d : Arriving C) → is_ready now (slice_index_or arrivals.now i d) ≡ false)) }
 {
     for i in 0..arrivals.len() {
         if !arrivals[i].is_ready(now) {
@@ -266,10 +236,11 @@ fn read_at<S: System>(system: &mut S, waiting: &mut Waiting<S::Stream>, place: u
     ensures came { (listener : Number) → HaveCome S.Stream.raw_fd listener (S.calls system.old) waiting.old.arriving.items → HaveCome S.Stream.raw_fd listener (S.calls system.new) waiting.new.arriving.items }
     ensures later { Later (S.calls system.old) (S.calls system.new) }
     ensures bounded { Bounded waiting.old.arriving.items → Bounded waiting.new.arriving.items }
+    ensures changes { (first : List (Arriving S.Stream)) (start : Calls) → Changes first start waiting.old.arriving.items (S.calls system.old) → Changes first start waiting.new.arriving.items (S.calls system.new) }
 {
     let room = waiting.room();
     let arriving = &mut waiting.arriving[place];
-    read_aside(system, arriving, waiting.places.as_mut_slice(), room);
+    arriving::hear(system, arriving, waiting.places.as_mut_slice(), room);
     if waiting.room() > 0 || !waiting.arriving[place].is_coming() {
         return true;
     }
@@ -287,6 +258,7 @@ pub(crate) fn read_found<S: System>(
     ensures came { (listener : Number) → HaveCome S.Stream.raw_fd listener (S.calls system.old) waiting.old.arriving.items → HaveCome S.Stream.raw_fd listener (S.calls system.new) waiting.new.arriving.items }
     ensures later { Later (S.calls system.old) (S.calls system.new) }
     ensures bounded { Bounded waiting.old.arriving.items → Bounded waiting.new.arriving.items }
+    ensures changes { (first : List (Arriving S.Stream)) (start : Calls) → Changes first start waiting.old.arriving.items (S.calls system.old) → Changes first start waiting.new.arriving.items (S.calls system.new) }
 {
     let mut place = 0;
     'found: for ask in found {
@@ -333,11 +305,12 @@ fn begin<S: System>(
     ensures came { (listener : Number) → Came listener (S.Stream.raw_fd stream) [] (S.calls system.old) → HaveCome S.Stream.raw_fd listener (S.calls system.old) waiting.old.arriving.items → HaveCome S.Stream.raw_fd listener (S.calls system.new) waiting.new.arriving.items }
     ensures later { Later (S.calls system.old) (S.calls system.new) }
     ensures bounded { Bounded waiting.old.arriving.items → Bounded waiting.new.arriving.items }
+    ensures changes { (first : List (Arriving S.Stream)) (start : Calls) → ReadsClock now start (S.calls system.old) → Changes first start waiting.old.arriving.items (S.calls system.old) → Changes first start waiting.new.arriving.items (S.calls system.new) }
 {
     let ends = now.saturating_add(Duration::from_secs(REQUEST_SECONDS));
     let mut arriving = Arriving::new(waiting.alloc, stream, ends);
     let room = waiting.room();
-    read_aside(system, &mut arriving, waiting.places.as_mut_slice(), room);
+    arriving::hear(system, &mut arriving, waiting.places.as_mut_slice(), room);
     waiting.keep(arriving, now);
 }
 
@@ -353,6 +326,7 @@ pub(crate) fn accept_all<S: System>(
     ensures later { Later (S.calls system.old) (S.calls system.new) }
     ensures fault { IfErr result (λ e. Ends (S.Listener.raw_fd listener.now) steps.Accept e (S.calls system.new)) }
     ensures bounded { Bounded waiting.old.arriving.items → Bounded waiting.new.arriving.items }
+    ensures changes { (first : List (Arriving S.Stream)) (start : Calls) → ReadsClock now start (S.calls system.old) → Changes first start waiting.old.arriving.items (S.calls system.old) → Changes first start waiting.new.arriving.items (S.calls system.new) }
 {
     waiting.pause = None;
     'accepted: for _ in 0..MOST {

@@ -146,8 +146,10 @@ fn answers_and_posts_arrive_whole_and_once(rt: HostRuntime) -> Result<(), Fail> 
     Ok(())
 }
 
-/// A request whose body waits for an interim answer.
+/// The head of a request whose body waits for an interim answer, and all of it.
 const HEAD: &[u8] = b"POST /d HTTP/1.1\r\nExpect: 100-continue\r\nContent-Length: 2\r\n\r\n";
+
+const ASKED: &[u8] = b"POST /d HTTP/1.1\r\nExpect: 100-continue\r\nContent-Length: 2\r\n\r\nok";
 
 /// Peers of which one is silent, one stops in the middle, one is reset there, two are whole later, one ends without a byte, and
 /// one waits for an interim answer.
@@ -187,7 +189,7 @@ fn turns(alloc: Global) -> Result<bool, AllocError> {
     let whole = hears_at(&mut site, OTHER, 1000) && hears_at(&mut site, WHOLE, 2000);
     let reset = hears_at(&mut site, FRONT, 3000) && ends_at(&mut site, Err(Failed), 3000);
     let ended = hears_at(&mut site, b"", 4000) && ends_at(&mut site, Ok(0), 4000);
-    let waits = hears_at(&mut site, HEAD, 5000) && ends_at(&mut site, Ok(2), 5500);
+    let waits = hears_at(&mut site, ASKED, 5500);
     let stopped = hears_at(&mut site, FRONT, 10_000) && ends_at(&mut site, Err(Failed), 10_000);
     let none = site.take().is_err();
     drop(site);
@@ -199,6 +201,125 @@ fn turns(alloc: Global) -> Result<bool, AllocError> {
 fn nobody_is_waited_for(rt: HostRuntime) -> Result<(), Fail> {
     let right = turns(rt.alloc())?;
     assert!(rt; right, "turns");
+    Ok(())
+}
+
+/// The interim line (RFC 9110, section 15.2.1).
+const INTERIM: &[u8] = b"HTTP/1.1 100 Continue\r\n\r\n";
+
+/// A client sends its head, and its body half a second later; another comes between, and is served first. Whether each was
+/// served in its time, and the first had the line and then its answer.
+fn goes_on(alloc: Global, rules: &[Rule]) -> Result<bool, AllocError> {
+    let mut world = world(alloc);
+    let mut waits = sender(alloc, 0, 0, HEAD)?;
+    waits.sends(alloc, at(500), b"ok")?;
+    world.peer(waits)?;
+    world.peer(sender(alloc, 100, 100, OTHER)?)?;
+    for rule in rules.iter() {
+        world.rule(*rule)?;
+    }
+    let mut system = MemorySystem::new(world);
+    let mut site = NodeSite::new(alloc, &mut system);
+    let attached = site.attach("d/j", "127.0.0.1:9").is_ok();
+    let other = hears_at(&mut site, OTHER, 100);
+    let waits = hears_at(&mut site, ASKED, 500) && site.send(ANSWER).is_ok();
+    site.leave();
+    drop(site);
+    match system.world().peers() {
+        [first, second] => Ok(
+            attached
+                && other
+                && waits
+                && first.took().strip_prefix(INTERIM) == Some(ANSWER)
+                && second.took() == b"".as_slice(),
+        ),
+        _ => Ok(false),
+    }
+}
+
+/// What befalls the first writes, and each so many behind them.
+const WRITES: &[(usize, Act)] = &[
+    (1, Act::AtMost(usize::MAX)),
+    (1, Act::AtMost(7)),
+    (2, Act::Fail(EINTR)),
+    (2, Act::Fail(EAGAIN)),
+];
+
+#[test]
+fn a_client_that_waits_is_told_to_go_on(rt: HostRuntime) -> Result<(), Fail> {
+    for (every, act) in WRITES {
+        let right = goes_on(rt.alloc(), &[each(Name::Write, 1, *every, *act)])?;
+        assert!(rt; right, "{every} {act:?}");
+    }
+    Ok(())
+}
+
+/// A request whose body is there with its head, one of HTTP/1.0, and one that is refused by its head.
+const UNTOLD: &[&[u8]] = &[
+    ASKED,
+    b"POST /d HTTP/1.0\r\nExpect: 100-continue\r\nContent-Length: 2\r\n\r\nok",
+    b"GET /d HTTP/1.1\r\nExpect: 100-continue\r\n\r\n",
+];
+
+/// Whether it is served at once, and nothing is said before its answer.
+fn is_untold(alloc: Global, request: &[u8]) -> Result<bool, AllocError> {
+    let mut world = world(alloc);
+    world.peer(sender(alloc, 0, 0, request)?)?;
+    let mut system = MemorySystem::new(world);
+    let mut site = NodeSite::new(alloc, &mut system);
+    let attached = site.attach("d/j", "127.0.0.1:9").is_ok();
+    let served = hears_at(&mut site, request, 0) && site.send(ANSWER).is_ok();
+    site.leave();
+    drop(site);
+    match system.world().peers() {
+        [peer] => Ok(attached && served && peer.took() == ANSWER),
+        _ => Ok(false),
+    }
+}
+
+#[test]
+fn nobody_else_is_told_to_go_on(rt: HostRuntime) -> Result<(), Fail> {
+    for request in UNTOLD {
+        let right = is_untold(rt.alloc(), request)?;
+        assert!(rt; right, "untold");
+    }
+    Ok(())
+}
+
+/// A client that takes so many bytes of the line, and whose body never comes: its turn comes when its time is over, and what
+/// is sent on it stands behind the whole line. What it took.
+fn waits_on(alloc: Global, room: usize) -> Result<Option<usize>, AllocError> {
+    let mut world = world(alloc);
+    let mut waits = sender(alloc, 0, 0, HEAD)?;
+    waits.takes(room);
+    world.peer(waits)?;
+    let mut system = MemorySystem::new(world);
+    let mut site = NodeSite::new(alloc, &mut system);
+    let attached = site.attach("d/j", "127.0.0.1:9").is_ok();
+    let served = hears_at(&mut site, HEAD, 10_000) && ends_at(&mut site, Err(Failed), 10_000);
+    let sent = site.send(ANSWER).is_ok();
+    site.leave();
+    drop(site);
+    match system.world().peers() {
+        [peer] if attached && served && sent => Ok(if INTERIM.starts_with(peer.took())
+            || peer.took().starts_with(INTERIM)
+        {
+            Some(peer.took().len())
+        } else {
+            None
+        }),
+        _ => Ok(None),
+    }
+}
+
+#[test]
+fn a_line_that_was_begun_is_ended(rt: HostRuntime) -> Result<(), Fail> {
+    let some = waits_on(rt.alloc(), 9)?;
+    let all = waits_on(rt.alloc(), 1000)?;
+    assert!(rt;
+        some == Some(9) && all == Some(INTERIM.len() + ANSWER.len()),
+        "{some:?} {all:?}"
+    );
     Ok(())
 }
 

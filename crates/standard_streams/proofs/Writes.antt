@@ -1,5 +1,5 @@
 -- How what is known of a writer's bytes composes over writes of which only the last takes any.
-use Rattle.std.proofs.Common.{ℕ, List, Option, Some, None, ◌≡◌, ◌++◌, ◌∙◌, ap, refl}
+use Rattle.std.proofs.Common.{ℕ, List, Option, Some, None, ◌++◌, ◌∙◌, ap, refl}
 use Rattle.std.specs.Io.KnownBytes.{Appends, Keeps}
 
 pub kept : (a : Option (List ℕ)) → Keeps a a

@@ -1,4 +1,5 @@
 use Rattle.atx_sites.proofs.Comings.{came_by, came_same, late_by}
+use Rattle.atx_sites.proofs.Hearings.{heard}
 use Rattle.atx_sites.proofs.arriving.read_once.Goals as goal
 
 pub returns-in-Ok-extend_from_slice-clause-later : goal.returns-in-Ok-extend_from_slice-clause-later
@@ -27,3 +28,18 @@ returns-else-not-passes-clause-came g c = λ listener h. came_by _ _ _ _ _ _ h c
 
 pub returns-else-not-passes-clause-later : goal.returns-else-not-passes-clause-later
 returns-else-not-passes-clause-later g c = late_by _ _ _ c.read.ensures.calls
+
+pub returns-in-Ok-extend_from_slice-clause-hears : goal.returns-in-Ok-extend_from_slice-clause-hears
+returns-in-Ok-extend_from_slice-clause-hears g c = λ first h. heard _ _ _ _ _ h c.read.ensures.calls
+
+pub returns-in-Ok-eq0-clause-hears : goal.returns-in-Ok-eq0-clause-hears
+returns-in-Ok-eq0-clause-hears g c = λ first h. heard _ _ _ _ _ h c.read.ensures.calls
+
+pub returns-in-Err-extend_from_slice-clause-hears : goal.returns-in-Err-extend_from_slice-clause-hears
+returns-in-Err-extend_from_slice-clause-hears g c = λ first h. heard _ _ _ _ _ h c.read.ensures.calls
+
+pub returns-then-not-passes-clause-hears : goal.returns-then-not-passes-clause-hears
+returns-then-not-passes-clause-hears g c = λ first h. heard _ _ _ _ _ h c.read.ensures.calls
+
+pub returns-else-not-passes-clause-hears : goal.returns-else-not-passes-clause-hears
+returns-else-not-passes-clause-hears g c = λ first h. heard _ _ _ _ _ h c.read.ensures.calls

@@ -3,4 +3,4 @@ use Rattle.atx_sites.proofs.DepartureLists.{went}
 use Rattle.atx_sites.proofs.departures.go_at.Goals as goal
 
 pub returns : goal.returns
-returns g c = (_, _, c.index_mut-outgoing.ensures.value, went g.S.Stream.AsRawFd.raw_fd c.index_mut-outgoing.result.now c.go.new.outgoing _ _ c.go.ensures.calls c.go.ensures.same, refl)
+returns g c = (_, _, c.index_mut-outgoing.ensures.value, went g.S.Stream.AsRawFd.raw_fd c.args.now c.index_mut-outgoing.result.now c.go.new.outgoing _ _ c.go.ensures.calls c.go.ensures.same c.go.ensures.time, refl)

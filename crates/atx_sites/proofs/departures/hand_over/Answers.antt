@@ -1,6 +1,7 @@
 use Rattle.std.proofs.Common.{◌≡◌, ap, arith, inl, inr, length, refl, rules}
 use Rattle.atx_sites.specs.Departures.{weight}
 use Rattle.atx_sites.proofs.DepartureBounds.{no_host, within_part, within_started}
+use Rattle.atx_sites.proofs.Changing.{read_clock}
 use Rattle.atx_sites.proofs.DepartureLists.{whole}
 use Rattle.atx_sites.proofs.Pushes.{closed_of}
 use Rattle.atx_sites.proofs.departures.hand_over.Goals as goal
@@ -24,7 +25,7 @@ returns-clause-answers g c = (
   c.has_room.ensures.part _ (whole _),
   _,
   (_, c.monotonic.ensures),
-  inr (c.answer-outgoing.result, c.answer-outgoing.ensures.0, c.answer-outgoing.ensures.1, c.answer-outgoing.ensures.2, c.start.ensures),
+  inr (c.in-Ok.now, read_clock c.in-Ok.now c.monotonic.result _ _ c.monotonic.ensures c.in-Ok.is, c.answer-outgoing.result, c.answer-outgoing.ensures.0, c.answer-outgoing.ensures.1, c.answer-outgoing.ensures.2, c.answer-outgoing.ensures.4, c.start.ensures),
 )
 
 pub returns-then-not-has_room-clause-within : goal.returns-then-not-has_room-clause-within
@@ -35,5 +36,5 @@ returns-clause-within g c = λ h.
     let room = c.has_room.ensures.room c.if-not-has_room.false in
     let n : c.len.result ≡ length c.args.bytes.items = search rules in
     let w : weight c.answer-outgoing.result ≡ length c.args.bytes.items = ap (λ b. length b.items) c.answer-outgoing.ensures.1 in
-    within_started g.S.Stream.AsRawFd.raw_fd c.answer-outgoing.result _ c.start.result _ _ _ c.start.ensures room.0 (omega (arith, room.1, n, w))
+    within_started g.S.Stream.AsRawFd.raw_fd c.in-Ok.now c.answer-outgoing.result _ c.start.result _ _ _ c.start.ensures room.0 (omega (arith, room.1, n, w))
     (λ host test is only. no_host c.answer-outgoing.result host c.answer-outgoing.ensures.3 is) (within_part _ _ (c.has_room.ensures.part _ (whole _)) h)

@@ -1,4 +1,4 @@
-use Rattle.std.proofs.Common.{List, ◌∙◌, ◌<◌, ap, length, slice_index_or, subst, sym, ◌≡◌}
+use Rattle.std.proofs.Common.{List, ◌∙◌, ◌<◌, length, slice_index_or, subst, sym, ◌≡◌}
 use Rattle.atx_sites.specs.Names.{IsFor}
 use Rattle.atx_sites.specs.declared.resolved_names.Name.{Name}
 use Rattle.atx_sites.proofs.Comings.{late_by}

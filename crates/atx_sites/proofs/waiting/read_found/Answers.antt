@@ -1,5 +1,6 @@
 use Rattle.std.proofs.Common.{◌∙◌, ap, subst, sym}
 use Rattle.atx_sites.specs.Arrivals.{Bounded}
+use Rattle.atx_sites.proofs.Changing.{changed_as}
 use Rattle.atx_sites.proofs.Comings.{have_as, later_still}
 use Rattle.atx_sites.specs.LinkCalls.Later.{none}
 use Rattle.atx_sites.specs.declared.waiting.Waiting.{Waiting}
@@ -16,17 +17,20 @@ found-preserved g c =
           (λ listener h. have_as number listener _ _ _ _ (c.found.invariant.0 listener h) (ap g.S.System.calls (w.system-is ∙ w'.system-is)) (ap items (w.waiting-is ∙ w'.waiting-is))),
           later_still _ _ _ c.found.invariant.1 (none (ap g.S.System.calls (w.system-is ∙ w'.system-is))),
           (λ h. subst Bounded (sym (ap items (w.waiting-is ∙ w'.waiting-is))) (c.found.invariant.2 h)),
+          (λ first start h. changed_as first start _ _ _ _ (c.found.invariant.3 first start h) (ap g.S.System.calls (w.system-is ∙ w'.system-is)) (ap items (w.waiting-is ∙ w'.waiting-is))),
         )
         | then-ask-eq0-via-else-ask-eq0+then-read_at w' ↦ (
           (λ listener h. have_as number listener _ _ _ _ (w'.read_at.ensures.came listener (c.found.invariant.0 listener h)) (ap g.S.System.calls (w.system-is ∙ w'.system-is)) (ap items (w.waiting-is ∙ w'.waiting-is))),
           later_still _ _ _ (later_still _ _ _ c.found.invariant.1 w'.read_at.ensures.later) (none (ap g.S.System.calls (w.system-is ∙ w'.system-is))),
           (λ h. subst Bounded (sym (ap items (w.waiting-is ∙ w'.waiting-is))) (w'.read_at.ensures.bounded (c.found.invariant.2 h))),
+          (λ first start h. changed_as first start _ _ _ _ (w'.read_at.ensures.changes first start (c.found.invariant.3 first start h)) (ap g.S.System.calls (w.system-is ∙ w'.system-is)) (ap items (w.waiting-is ∙ w'.waiting-is))),
         )
       ]
       | else-ask-eq0+else-read_at w ↦ (
         (λ listener h. have_as number listener _ _ _ _ (w.read_at.ensures.came listener (c.found.invariant.0 listener h)) (ap g.S.System.calls w.system-is) (ap items w.waiting-is)),
         later_still _ _ _ (later_still _ _ _ c.found.invariant.1 w.read_at.ensures.later) (none (ap g.S.System.calls w.system-is)),
         (λ h. subst Bounded (sym (ap items w.waiting-is)) (w.read_at.ensures.bounded (c.found.invariant.2 h))),
+        (λ first start h. changed_as first start _ _ _ _ (w.read_at.ensures.changes first start (c.found.invariant.3 first start h)) (ap g.S.System.calls w.system-is) (ap items w.waiting-is)),
       )
     ]
 
@@ -35,3 +39,9 @@ returns-then-place-len-clause-bounded g c = c.found.invariant.2
 
 pub returns-clause-bounded : goal.returns-clause-bounded
 returns-clause-bounded g c = c.found.invariant.2
+
+pub returns-then-place-len-clause-changes : goal.returns-then-place-len-clause-changes
+returns-then-place-len-clause-changes g c = c.found.invariant.3
+
+pub returns-clause-changes : goal.returns-clause-changes
+returns-clause-changes g c = c.found.invariant.3

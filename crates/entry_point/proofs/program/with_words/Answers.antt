@@ -1,5 +1,4 @@
-use Rattle.std.proofs.Common.{IfOk, List, drop, map, string_bytes, subst, sym}
-use Rattle.std.specs.Process.{exit_status}
+use Rattle.std.proofs.Common.{drop, map, string_bytes, subst, sym}
 use Rattle.std.specs.Vec.Iter.{into_iter_items}
 use Rattle.entry_point.specs.Asking.{heard}
 use Rattle.entry_point.specs.Calls.{CalledOrNot}

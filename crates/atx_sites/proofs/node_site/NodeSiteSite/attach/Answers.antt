@@ -1,3 +1,5 @@
+use Rattle.atx_sites.proofs.Comings.{later_still}
+use Rattle.atx_sites.proofs.Holding.{holds_later, holds_listening}
 use Rattle.std.proofs.Common.{refl}
 use Rattle.atx_sites.proofs.Attachings.{attaches, failed_tally, held, listens, no_more, on_failed, on_passed, passed_tally, stands}
 use Rattle.atx_sites.proofs.node_site.NodeSiteSite.attach.Goals as goal
@@ -34,3 +36,16 @@ returns-in-Err-clause-tallied g c =
 pub returns-in-Err-clause-call : goal.returns-in-Err-clause-call
 returns-in-Err-clause-call g c =
     attaches c.args.self.now.disk c.open.new.disk _ _ _ _ _ _ _ _ _ _ c.open.ensures.cause.later c.in-Err.ensures.cause.later c.in-Err.ensures.cause.failed (no_more _) c.open.ensures.gate
+
+pub returns-then-is_err-clause-holds : goal.returns-then-is_err-clause-holds
+returns-then-is_err-clause-holds g c = λ h. holds_later g.S.Stream.AsRawFd.raw_fd g.S.Listener.AsRawFd.raw_fd _ _ c.args.self.now.connection c.args.self.now.departures c.open.ensures.later h
+
+pub returns-in-Ok-clause-holds : goal.returns-in-Ok-clause-holds
+returns-in-Ok-clause-holds g c = λ h.
+    holds_listening g.S.Stream.AsRawFd.raw_fd g.S.Listener.AsRawFd.raw_fd _ _ c.args.self.now.connection c.listen-listening.new.connection c.args.self.now.departures c.listen-listening.new.departures
+    (later_still _ _ _ c.open.ensures.later c.listen-listening.ensures.later) c.listen-listening.ensures.came c.listen-listening.ensures.aside c.listen-listening.ensures.leaving h
+
+pub returns-in-Err-clause-holds : goal.returns-in-Err-clause-holds
+returns-in-Err-clause-holds g c = λ h.
+    holds_listening g.S.Stream.AsRawFd.raw_fd g.S.Listener.AsRawFd.raw_fd _ _ c.args.self.now.connection c.listen-listening.new.connection c.args.self.now.departures c.listen-listening.new.departures
+    (later_still _ _ _ c.open.ensures.later c.listen-listening.ensures.later) c.listen-listening.ensures.came c.listen-listening.ensures.aside c.listen-listening.ensures.leaving h
