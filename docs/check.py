@@ -22,6 +22,8 @@ TOP = pathlib.Path(__file__).resolve().parent.parent
 ELSEWHERE = {
     # of Rust's collections, and of XML and WS-Addressing
     "HashMap", "IndexMap", "Char", "IsReferenceParameter", "RelationshipType",
+    # members of the JSON that a node shows
+    "sent_ago", "aborted_ago", "answers_and_posts_lost", "requests_of_web_pages",
     # options of rt
     "--allow-holes", "--only",
     # what stands for a name
