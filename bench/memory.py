@@ -26,8 +26,8 @@ script ends with status 1. A node is asked what `replay --bytes` says that the n
 others at which it posts are this script's. Of a node with a timer of its own the growths are tried that come behind its last request.
 Two commands are tried at a time, at ports 9301 to 9308 and 9321 to 9328. With words only the commands whose names begin so.
 
-With `--names` it says of each growth that ended neither with 9 nor with 503 where it was asked for: the functions that had called one
-another, the innermost first, as far as the program has symbols and frame pointers.
+With `--names` it says of the growths that ended neither with 9 nor with 503 where they were asked for: how often, and the functions that
+had called one another, the innermost first, but for those of the standard library, as far as the program has symbols and frame pointers.
 
 It stands outside the gate, and wants a built `atx` (or another program, that ATX names), `cc`, and with `--names` `nm`.
 """
@@ -55,6 +55,7 @@ BUSY = b"HTTP/1.1 503 "
 PATIENCE = 60
 
 FRAMES = 62
+NAMES = 6
 
 # Counts what the program itself asks for, and refuses one of these. The file's numbers: how many there were, which to refuse, and where
 # in the program the calls stood that led to the refused one, innermost first.
@@ -168,8 +169,9 @@ class Memory:
         return self.read()[0]
 
     def where(self):
-        """The functions that asked for the growth that was refused, innermost first."""
-        return tuple(named(place) for place in self.read()[2:] if place)
+        """The functions that led to the growth that was refused, innermost first."""
+        found = (named(place) for place in self.read()[2:] if place)
+        return tuple(it for it in found if not it.startswith(("rattle_", "std_alloc::", "std::", "core::")))[:NAMES]
 
 
 @functools.cache
@@ -262,7 +264,7 @@ class Came:
     """What came of the growths that were refused, how often, and what is to be told of single ones."""
 
     def __init__(self, names):
-        self.names, self.counts, self.told, self.right = names, collections.Counter(), [], True
+        self.names, self.counts, self.places, self.wrong = names, collections.Counter(), collections.Counter(), []
 
     def refuse(self, memory, growths, run, judge):
         """Refuses each of these growths, as far as there are so many."""
@@ -273,14 +275,16 @@ class Came:
                     return
                 kind = judge(it)
             except Wrong as fault:
-                kind, self.right = f"wrong, {fault}", False
+                kind = "wrong"
+                self.wrong.append(f"    growth {nth}: {fault}")
             self.counts[kind] += 1
-            if kind not in KINDS or self.names and kind not in ASKED_FOR:
-                self.told.append(f"    {nth} {kind}" + (": " + " < ".join(memory.where()) if self.names else ""))
+            if self.names and kind not in ASKED_FOR:
+                self.places[kind, memory.where()] += 1
 
     def lines(self, name):
         row = f"{name:<28}{shown([sum(self.counts.values()), *(self.counts[kind] for kind in KINDS)])}"
-        return "\n".join([row, *self.told])
+        places = [f"    {count} {kind}: {' < '.join(where)}" for (kind, where), count in self.places.items()]
+        return "\n".join([row, *places, *self.wrong])
 
 
 def has_said(said, whole):
@@ -778,7 +782,7 @@ class Worker:
             cls.commands[name](came)
         except Wrong as fault:
             return False, f"{name:<28} {fault}"
-        return came.right, came.lines(name)
+        return not came.wrong, came.lines(name)
 
 
 def main(words):
