@@ -352,8 +352,9 @@ class Asked:
     """What a node of a role is asked: its lines, with a `wait` for each request that is to come first; the requests; and the journal
     that it comes up with."""
 
-    def __init__(self, role, node, asked, files=NO_FILES, ending=b"\n"):
-        self.role, self.node, self.files, self.ending, self.requests, self.lines = role, node, files, ending, [], []
+    def __init__(self, role, node, asked, files=NO_FILES, ending=b"\n", options=()):
+        self.role, self.node, self.files, self.ending, self.options = role, node, files, ending, options
+        self.requests, self.lines = [], []
         awaited = 0
         for it in asked:
             if isinstance(it, bytes):
@@ -377,7 +378,7 @@ class Asked:
 
     def words(self, journal, turns):
         counted = [] if turns is None else ["--turns", str(turns)]
-        return [self.role, "--listen", f"127.0.0.1:{PORT + self.node}", "--journal", journal, *counted]
+        return [self.role, "--listen", f"127.0.0.1:{PORT + self.node}", "--journal", journal, *counted, *self.options]
 
     def given(self):
         return "".join(line + "\n" for line in self.lines).encode()
@@ -560,6 +561,8 @@ def lacks_one(posts, whole):
 
 def compared(whole, it, asked):
     """What came of a growth that was refused."""
+    if it.said and not it.said.endswith(b"\n"):
+        raise Wrong(f"it said {it.said!r}")
     if it.status == 0 and (it.answers, it.out, it.files) == (whole.answers, whole.out, whole.files):
         if it.posts == whole.posts:
             return "503" if it.busy else "closed" if it.closed else "none"
@@ -618,12 +621,12 @@ class Timed:
     LAST, AWAITED = b"root 1-1 aborted\n", 8
 
     def __init__(self, memory, room, listeners, asked, nth):
-        self.records, self.busy, self.closed, self.growths = [[]], 0, 0, 0
+        self.records, self.busy, self.closed, self.growths = [[]] * len(asked.requests), 0, 0, 0
         self.journal = os.path.join(room, "journal")
         lay(self.journal, NO_FILES)
         with begun(memory, room, asked, nth, asked.words(self.journal, None)) as (it, out):
             self.answers = [asks(PORT + asked.node, data) for data in asked.requests] if is_up(it, out) else []
-            self.first = memory.growths()
+            self.first, self.said = memory.growths(), b""
             self.status = self.wait(it, out)
             time.sleep(0.2)
             self.growths = memory.growths()
@@ -657,6 +660,7 @@ def framed(*bodies):
 
 
 START = b"\1\0\0\0\1"
+BAD = b"\1\0\0\0\5\1\0"
 
 
 def decided(number, addresses):
@@ -698,16 +702,33 @@ def commands(memory, room):
         finally:
             listener.close()
 
+    def auditing(more):
+        """An audit of the journals that a commit leaves, and of a line more."""
+        def run(came):
+            asked = messages(PLAIN)
+            files = {number: left_by(memory, room, role, number, asked[number]) for number, role in ((2, "coordinator"), (3, "participant"))}
+            lines = "".join(f"journal {url(number)} {' '.join(it.hex() or '-' for it in both)}\n" for number, both in files.items())
+            plain(["audit"], (lines + more).encode())(came)
+        return run
+
+    def looking(words, file):
+        """A command that reads this file as a journal."""
+        def run(came):
+            journal = os.path.join(room, "looked")
+            lay(journal, (file, b""))
+            plain([*words, journal])(came)
+        return run
+
     def bad(came):
         journal = os.path.join(room, "bad")
 
         def run(nth):
-            lay(journal, (b"\1\0\0\0\5\1\0", b""))
+            lay(journal, (BAD, b""))
             return Filtered(memory, nth, Asked("coordinator", 2, []).words(journal, 0))
         refusals(memory, came, run, machine=True)
 
-    def node(role, number, schedule, ending):
-        return lambda came: serving(memory, room, came, Asked(role, number, messages(schedule)[number], NO_FILES, ending))
+    def node(role, number, schedule, ending, options=()):
+        return lambda came: serving(memory, room, came, Asked(role, number, messages(schedule)[number], NO_FILES, ending, options))
 
     def behind(role, number):
         """A node that went down before its last request."""
@@ -737,6 +758,11 @@ def commands(memory, room):
         "cell": plain(["cell", "--state", "None"], PREPARED),
         "make": plain(["make", "--seed", "1", "--steps", "60"]),
         "tick": tick,
+        "audit": auditing(""),
+        "audit, a bad line": auditing("journal\n"),
+        "journal": looking(["journal"], old()),
+        "journal, a bad one": looking(["journal"], BAD),
+        "journal --hex": looking(["journal", "--hex", "http://a.example"], old()),
         "replay, refused": plain(["replay"], b"nodes 1\nup 1\nfoo\n"),
         "replay": plain(["replay"], PLAIN.encode()),
         "replay --bytes --settle": plain(["replay", "--bytes", "--settle"], FAULTS.encode()),
@@ -745,6 +771,7 @@ def commands(memory, room):
         "participant": node("participant", 3, PLAIN, b"leaf 1-1 d committed\n"),
         "participant, up again": behind("participant", 3),
         "coordinator": node("coordinator", 2, PLAIN, b"root 1-1 committed\n"),
+        "coordinator --log": node("coordinator", 2, PLAIN, b"root 1-1 committed\n", ["--log"]),
         "coordinator, up again": behind("coordinator", 2),
         "coordinator, an old journal": on(old()),
         "coordinator, a long journal": on(long()),
