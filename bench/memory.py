@@ -72,6 +72,7 @@ REFUSING = r"""
 
 extern void *__libc_malloc(size_t), *__libc_calloc(size_t, size_t), *__libc_realloc(void *, size_t), *__libc_memalign(size_t, size_t);
 #define FRAMES 62
+extern void *__libc_stack_end;
 static uintptr_t base, from, to;
 static volatile uint64_t *numbers;
 
@@ -96,11 +97,11 @@ __attribute__((constructor)) static void begin(void) {
 
 static int is_program(uintptr_t place) { return place >= from && place < to; }
 
-/* A frame is the caller's frame and the place to return to; each lies above the one that it calls. */
+/* A frame is the caller's frame and the place to return to; each lies on the stack above the one that it calls. */
 static void note(uintptr_t *frame) {
     for (int at = 0; at < FRAMES && is_program(frame[1]); at++) {
         numbers[2 + at] = frame[1] - base;
-        if (frame[0] <= (uintptr_t)frame || frame[0] - (uintptr_t)frame > 1 << 20) return;
+        if (frame[0] <= (uintptr_t)frame || frame[0] + 2 * sizeof *frame > (uintptr_t)__libc_stack_end) return;
         frame = (uintptr_t *)frame[0];
     }
 }
