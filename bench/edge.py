@@ -4,11 +4,13 @@
     bench/edge.py [ROUNDS]
 
 Two coordinators serve: one that nobody else speaks to, and one beside 50 connections that send nothing, 8 that sent half of a request, and 4
-peers that accept no connection, to which the node posts the outcomes of transactions that are committed meanwhile, 5 a second. In each of
-ROUNDS (8) rounds both are asked in turn, each for a second by one client and for a second by 32: `Committed`s of a transaction that
+peers that accept no connection, to which the node posts `Rollback`s of transactions that it doesn't know, 5 a second: none leaves a record,
+for which all would wait until the disk has it. In each of ROUNDS (8) rounds both are asked in turn, each for a second by one client and for a second by 32: `Committed`s of a transaction that
 they don't know, which leave no record, each on a connection of its own, and the next as soon as an answer was there to its end. It
-prints requests a second and, of all rounds, the times within which a half and 99 of 100 were answered, and how many times the one the
-other is; and the ratio of the two coordinators' requests a second, the median over the rounds with its least and most.
+prints requests a second, a coordinator's microseconds of a processor for each, and, of all rounds, the times within which a half and 99 of
+100 were answered, and how many times the one the other is; and how many requests the second coordinator answered for one of the first, in
+a second and in a second of its processor: the median over the rounds with its least and most. On a machine that does much else only the
+latter says something of the program.
 
 The clients are one small program in C, which this script compiles with `cc` and which waits by `poll`. It stands outside the gate, and
 wants a built `atx`, or another program in ATX. Ports 9201, 9202 and 9211 to 9214 are to be free.
@@ -22,8 +24,7 @@ import tempfile
 import threading
 import time
 
-import serving
-from serving import ATX, ask, commit, committed, create, path_in, register
+from serving import AT, ATX, ask, committed, request
 
 ALONE, BESIDE = 9201, 9202
 CLIENTS, IDLE, HALF, SHUT = 32, 50, 8, (9211, 9212, 9213, 9214)
@@ -128,7 +129,7 @@ class Beside:
         self.slow = []
         self.ends = threading.Event()
         self.posts = 0
-        self.thread = threading.Thread(target=self.commits, daemon=True)
+        self.thread = threading.Thread(target=self.post, daemon=True)
         self.thread.start()
         return self
 
@@ -138,14 +139,11 @@ class Beside:
             it.close()
         self.slow = [connected(b"") for _ in range(IDLE)] + [connected(committed()[:300]) for _ in range(HALF)]
 
-    def commits(self):
-        """Commits a transaction five times a second, whose outcome is posted to a peer that accepts no connection."""
+    def post(self):
+        """Says five times a second that a participant is prepared, of which the node knows nothing, and which accepts no connection."""
         while not self.ends.wait(0.2):
-            number = 1_000_000 + self.posts
-            serving.HOME = f"http://127.0.0.1:{SHUT[self.posts % len(SHUT)]}/i/1-1"
-            context = ask(BESIDE, create(number))
-            registered = ask(BESIDE, register(number, path_in(context, b"RegistrationService")))
-            ask(BESIDE, commit(path_in(registered, b"CoordinatorProtocolService")))
+            home = f"http://127.0.0.1:{SHUT[self.posts % len(SHUT)]}/p/d/1-{self.posts}"
+            ask(BESIDE, request("/c/d/9-9/1", f"{AT}/Prepared", "<t:Prepared/>", f"<wsa:From><wsa:Address>{home}</wsa:Address></wsa:From>"))
             self.posts += 1
 
     def __exit__(self, *fault):
@@ -159,7 +157,7 @@ class Node:
     """A coordinator that is up, and how often and how fast it answered: one client, and many."""
 
     def __init__(self, room, port):
-        self.port, self.rates, self.times = port, {1: [], CLIENTS: []}, {1: [], CLIENTS: []}
+        self.port, self.rates, self.costs, self.times = port, *({1: [], CLIENTS: []} for _ in range(3))
         out = os.path.join(room, f"out-{port}")
         with open(out, "w", encoding="utf-8") as told:
             self.process = subprocess.Popen([ATX, "coordinator", "--listen", f"127.0.0.1:{port}", "--journal", os.path.join(room, f"journal-{port}")],
@@ -172,11 +170,17 @@ class Node:
         self.end()
         sys.exit("edge: the node isn't up")
 
+    def spent(self):
+        """The seconds of a processor that it took so far."""
+        with open(f"/proc/{self.process.pid}/schedstat", encoding="utf-8") as told:
+            return int(told.read().split()[0]) / 1e9
+
     def ask(self, asking, clients):
-        start = time.perf_counter()
+        start, spent = time.perf_counter(), self.spent()
         asked = subprocess.run([asking, str(self.port), str(clients), str(MILLIS)], input=committed(), stdout=subprocess.PIPE, check=True)
         times = [int(it) for it in asked.stdout.split()]
         self.rates[clients].append(len(times) / (time.perf_counter() - start))
+        self.costs[clients].append((self.spent() - spent) / len(times))
         self.times[clients] += times
 
     def end(self):
@@ -190,8 +194,14 @@ def part_of(times, parts):
 
 
 def shown(name, node, clients):
+    rate, cost = statistics.median(node.rates[clients]), statistics.median(node.costs[clients])
     half, most = part_of(node.times[clients], 50), part_of(node.times[clients], 99)
-    print(f"{name:<10}{clients:>8}{statistics.median(node.rates[clients]):>12.0f}{half / 1000:>10.2f}{most / 1000:>10.2f}{most / half:>8.1f}")
+    print(f"{name:<10}{clients:>8}{rate:>12.0f}{cost * 1e6:>10.1f}{half / 1000:>10.2f}{most / 1000:>10.2f}{most / half:>8.1f}")
+
+
+def compared(name, ones, others):
+    ratios = [one / other for one, other in zip(ones, others)]
+    print(f"{name}: {statistics.median(ratios):.2f} ({min(ratios):.2f} to {max(ratios):.2f})")
 
 
 def compiled(room):
@@ -220,13 +230,13 @@ def main(words):
         finally:
             for it in nodes:
                 it.end()
-    print(f"{'':<10}{'clients':>8}{'a second':>12}{'p50 ms':>10}{'p99 ms':>10}{'ratio':>8}")
+    print(f"{'':<10}{'clients':>8}{'a second':>12}{'us each':>10}{'p50 ms':>10}{'p99 ms':>10}{'ratio':>8}")
     for clients in (1, CLIENTS):
         shown("alone", alone, clients)
         shown("beside", others, clients)
     for clients in (1, CLIENTS):
-        ratios = [one / other for one, other in zip(others.rates[clients], alone.rates[clients])]
-        print(f"{clients} clients: {statistics.median(ratios):.2f} of the requests a second of a node alone ({min(ratios):.2f} to {max(ratios):.2f})")
+        compared(f"beside for one alone, {clients} clients, a second", others.rates[clients], alone.rates[clients])
+        compared(f"beside for one alone, {clients} clients, a second of its processor", alone.costs[clients], others.costs[clients])
     print(f"beside {IDLE} silent, {HALF} half-sent, {len(SHUT)} unreachable peers with {posts} posts to them")
 
 

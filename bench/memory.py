@@ -582,7 +582,7 @@ def compared(whole, it, asked):
     found, answered = kept(it.files), len(it.answers)
     least = whole.records[answered - 1] if answered else kept(asked.files)
     most = whole.records[min(answered, len(whole.records) - 1)] if whole.records else kept(asked.files)
-    if not is_beginning(least, found) or not is_beginning(found, most):
+    if found not in (least, most) and not (is_beginning(least, found) and is_beginning(found, most)):
         raise Wrong(f"{len(found)} records, where there are {len(least)} to {len(most)}")
     if not comes_up(asked, it.journal):
         raise Wrong("it doesn't come up again")
