@@ -22,8 +22,8 @@ A growth of the machine itself, of its connections and posts, is a failed call o
     unsent all was as with memory, but one post, which failed and is as a lost message
 
 Anything else is wrong: another status, half a line, a record or a post that isn't there or that is there twice. Each is printed, and the
-script ends with status 1. A node is asked what `replay --bytes` says that the nodes of a schedule were sent, over the loopback; the
-others at which it posts are this script's. Of a node with a timer of its own the growths are tried that come behind its last request.
+script ends with status 1. (Of what a node says on standard error it is looked whether its lines are whole: a log may lack some.) A node
+is asked what `replay --bytes` says that the nodes of a schedule were sent, over the loopback; the others at which it posts are this script's. Of a node with a timer of its own the growths are tried that come behind its last request.
 Two commands are tried at a time, at ports 9301 to 9308 and 9321 to 9328. With words only the commands whose names begin so.
 
 With `--names` it says of the growths that ended neither with 9 nor with 503 where they were asked for: how often, and the functions that
