@@ -22,9 +22,11 @@ A growth of the machine itself, of its connections and posts, is a failed call o
     unsent all was as with memory, but one post, which failed and is as a lost message
 
 Anything else is wrong: another status, half a line, a record or a post that isn't there or that is there twice. Each is printed, and the
-script ends with status 1. (Of what a node says on standard error it is looked whether its lines are whole: a log may lack some.) A node
-is asked what `replay --bytes` says that the nodes of a schedule were sent, over the loopback; the others at which it posts are this script's. Of a node with a timer of its own the growths are tried that come behind its last request.
-Two commands are tried at a time, at ports 9301 to 9308 and 9321 to 9328. With words only the commands whose names begin so.
+script ends with status 1. (Of what a node says on standard error it is looked whether its lines are whole: a log may lack some.)
+
+A node is asked what `replay --bytes` says that the nodes of a schedule were sent, over the loopback; the others at which it posts are this
+script's. Of a node with a timer of its own the growths are tried that come behind its last request. Two commands are tried at a time,
+at ports 9301 to 9308 and 9321 to 9328. With words only the commands whose names begin so.
 
 With `--names` it says of the growths that ended neither with 9 nor with 503 where they were asked for: how often, and the functions that
 had called one another, the innermost first, but for those of the standard library, as far as the program has symbols and frame pointers.
@@ -682,8 +684,8 @@ def old():
 
 
 def long():
-    """A journal of 65,536 bytes less a start, so that behind one more it is written anew at the end of a turn: a decision that waits for its
-    one participant, and others that are over."""
+    """A journal of 65,536 bytes less a start, so that behind one more it is written anew at the end of a turn: a decision that waits for
+    its one participant, and others that are over."""
     far = b"http://a.example/" + b"a" * 1900
     bodies = [b"\x0b\0\0\0\0", START, waiting()]
     for number in range(2, 10):
@@ -709,7 +711,8 @@ def commands(memory, room):
         """An audit of the journals that a commit leaves, and of a line more."""
         def run(came):
             asked = messages(PLAIN)
-            files = {number: left_by(memory, room, role, number, asked[number]) for number, role in ((2, "coordinator"), (3, "participant"))}
+            roles = {2: "coordinator", 3: "participant"}
+            files = {number: left_by(memory, room, role, number, asked[number]) for number, role in roles.items()}
             lines = "".join(f"journal {url(number)} {' '.join(it.hex() or '-' for it in both)}\n" for number, both in files.items())
             plain(["audit"], (lines + more).encode())(came)
         return run
