@@ -10,7 +10,7 @@ due. A transaction is split where one of its participants printed that it commit
 says what came out and how often, and ends with status 1 where a transaction was split or a journal didn't load. A kill may take what
 a node was about to print.
 
-It stands outside the gate, and wants a built `atx`. Ports 9101 to 9104 are to be free.
+It stands outside the gate, and wants a built `atx`, or another program in ATX. Ports 9101 to 9104 are to be free.
 """
 import collections
 import os
@@ -20,8 +20,8 @@ import sys
 import tempfile
 import time
 
-TOP = os.path.join(os.path.dirname(os.path.abspath(__file__)), "..")
-ATX = os.path.join(TOP, "atx")
+TOP = os.path.dirname(os.path.dirname(os.path.abspath(__file__)))
+ATX = os.environ.get("ATX", os.path.join(TOP, "crates", "atx", "out", "atx"))
 PORTS = {"coordinator": 9101, "first": 9102, "second": 9103, "initiator": 9104}
 ROLES = {"coordinator": "coordinator", "first": "participant", "second": "participant", "initiator": "initiator"}
 KILLED = ["coordinator", "first", "second"]

@@ -9,14 +9,16 @@
                     have one byte as fit, sent byte by byte; and one of 65,536 chunks of one byte, which is answered 413
     512 seats       a transaction of 512 durable participants, at endpoints of 2,048 bytes, which commits: all are asked to prepare, have
                     voted, and stand in one record; one more is refused. Then the coordinator comes up again with that record
-    replay          10,000 lines
+    replay, make    10,000 lines
+    audit           8 journals on lines of 1,048,576 bytes in all, whose records are decisions without participants
+    a journal       of 8 MiB, on which a coordinator starts, and which `journal` prints
     4 GiB           a journal of 4,294,967,285 bytes, where a file may have 4,294,967,295 and a start takes 10. It is written into FOLDER,
                     needs 5 GiB there and some 12 GiB of memory, and is left out where no FOLDER (with a `/`) is named
 
 Each is printed with the seconds of a processor that it took, its memory at most, and its least stack: the smallest limit of the stack
-(`ulimit -s`, in steps of 4 KiB) with which it still passes. Below that the system ends the program by a signal. The journal of 4 GiB is
-started once more with the least stack that one of 8 MiB wants. It stands outside the gate, and wants a built `atx` (or another
-program, that ATX names) and `cc`; ports 9311 and 9312 are to be free.
+(`ulimit -s`, in steps of 4 KiB) with which it still passes. Below that the system ends the program by a signal. The audit and the journal
+of 4 GiB, which take long, are run once, with the least stack that a small audit and a journal of 8 MiB want. It stands outside the
+gate, and wants a built `atx` (or another program, that ATX names) and `cc`; ports 9311 and 9312 are to be free.
 """
 import os
 import re
@@ -376,6 +378,31 @@ def starting(folder, size):
     return run
 
 
+def printing(folder, size):
+    def run(stack):
+        path = os.path.join(folder, "largest.journal")
+        try:
+            write(path, size)
+            return filtering(["journal", path], b"", b"version 2\n")(stack)
+        finally:
+            os.remove(path)
+
+    return run
+
+
+def auditing(size):
+    """Of eight journals, on lines of so many bytes in all."""
+    def line(node):
+        begin = f"journal http://n{node}.example "
+        bodies = [b"\x0b\0\0\0\0", b"\1\0\0\0\1"]
+        count = (size // 8 - len(begin) - 44) // 32
+        bodies += [b"\6\0\0\0\1" + number.to_bytes(4, "big") + b"\0\0" for number in range(1, count + 1)]
+        file = b"".join(b"\1" + len(it).to_bytes(4, "big") + it for it in bodies) + b"\0"
+        return f"{begin}{file.hex()} -\n"
+
+    return filtering(["audit"], "".join(line(node) for node in range(1, 9)).encode(), b"agreed committed ")
+
+
 def least(run):
     """The least stack with which it passes, in KiB."""
     low, high = STACKS
@@ -394,23 +421,31 @@ def shown(name, it, stack):
         raise Unfit(f"status {it.status}")
 
 
-def measured(name, run):
+def measured(name, run, small):
+    """Runs it with much stack, and says the least; where there is a small one like it, runs it with the least stack of that."""
+    if small:
+        stack = least(small)
+        shown(name, run(stack), stack)
+        return
     it = run(STACKS[1])
     shown(name, it, least(run) if it.status == 0 else 0)
 
 
 def cases(room, folder):
-    """Each case's name and how it is run with a limit of its stack."""
+    """Each case's name, how it is run with a limit of its stack, and a small one like it where it takes long."""
     largest, peer = filled(work), Peer()
-    yield "check of a small one", filtering(["check", "--path", "/work"], work("").encode(), b"message Work\n")
-    yield "check", filtering(["check", "--path", "/work"], largest, b"message Work\n")
-    yield "cell", filtering(["cell", "--state", "None"], filled(prepared), b"send Rollback -> None\n")
-    yield "a turn", turning(peer, largest)
-    yield "512 seats", seating(peer)
-    yield "replay", filtering(["replay"], replaying(), b"up 1 1\n")
-    yield "a journal of 8 MiB", starting(room, SMALL)
+    yield "check of a small one", filtering(["check", "--path", "/work"], work("").encode(), b"message Work\n"), None
+    yield "check", filtering(["check", "--path", "/work"], largest, b"message Work\n"), None
+    yield "cell", filtering(["cell", "--state", "None"], filled(prepared), b"send Rollback -> None\n"), None
+    yield "a turn", turning(peer, largest), None
+    yield "512 seats", seating(peer), None
+    yield "replay", filtering(["replay"], replaying(), b"up 1 1\n"), None
+    yield "make", filtering(["make", "--seed", "1", "--steps", "9999"], b"", b"steps 9999 "), None
+    yield "audit", auditing(2**20), auditing(2**14)
+    yield "a journal of 8 MiB", starting(room, SMALL), None
+    yield "a journal of 8 MiB, printed", printing(room, SMALL), None
     if folder:
-        yield "a journal of 4 GiB", starting(folder, MOST)
+        yield "a journal of 4 GiB", starting(folder, MOST), starting(room, SMALL)
 
 
 def main(words):
@@ -423,16 +458,11 @@ def main(words):
         sys.exit(f"largest: the stack's limit is {hard} bytes")
     with tempfile.TemporaryDirectory() as room:
         Ran.prepare(room)
-        print(f"{'':<28}{'seconds':>10}{'MB':>10}{'stack, KiB':>12}")
+        print(f"{'':<28}{'seconds':>10}{'MB':>10}{'stack, KiB':>12}", flush=True)
         try:
-            for name, run in cases(room, folder):
-                if names and not name.startswith(names):
-                    continue
-                if name == "a journal of 4 GiB":
-                    stack = least(starting(room, SMALL))
-                    shown(name, run(stack), stack)
-                else:
-                    measured(name, run)
+            for name, run, small in cases(room, folder):
+                if not names or name.startswith(names):
+                    measured(name, run, small)
         except Unfit as fault:
             sys.exit(f"largest: {fault}")
     return 0

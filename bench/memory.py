@@ -1,7 +1,7 @@
 #!/usr/bin/env python3
 """Refuses memory to atx, one growth at a time, and looks what it says then.
 
-    bench/memory.py [COMMAND..]
+    bench/memory.py [--names] [COMMAND..]
 
 Each command is run first with all the memory that it asks for, and then once for each time that it asked: there that one growth is
 refused, and no other. It is told to the program by a malloc of its own, which this script compiles with `cc` and loads before the C
@@ -22,14 +22,22 @@ A growth of the machine itself, of its connections and posts, is a failed call o
     unsent all was as with memory, but one post, which failed and is as a lost message
 
 Anything else is wrong: another status, half a line, a record or a post that isn't there or that is there twice. Each is printed, and the
-script ends with status 1. A node is asked what `replay --bytes` says that the nodes of a schedule were sent, over the loopback; the
-others at which it posts are this script's, ports 9301 to 9308. Of a node with a timer of its own the growths are tried that come
-behind its last request. It stands outside the gate, and wants a built `atx` (or another program, that ATX names). With words only the
-commands whose names begin so.
+script ends with status 1. (Of what a node says on standard error it is looked whether its lines are whole: a log may lack some.)
+
+A node is asked what `replay --bytes` says that the nodes of a schedule were sent, over the loopback; the others at which it posts are this
+script's. Of a node with a timer of its own the growths are tried that come behind its last request. Two commands are tried at a time,
+at ports 9301 to 9308 and 9321 to 9328. With words only the commands whose names begin so.
+
+With `--names` it says of the growths that ended neither with 9 nor with 503 where they were asked for: how often, and the functions that
+had called one another, the innermost first, but for those of the standard library, as far as the program has symbols and frame pointers.
+
+It stands outside the gate, and wants a built `atx` (or another program, that ATX names), `cc`, and with `--names` `nm`.
 """
+import bisect
 import collections
+import functools
 import itertools
-import mmap
+import multiprocessing
 import os
 import re
 import socket
@@ -43,11 +51,17 @@ import uuid
 
 TOP = os.path.dirname(os.path.dirname(os.path.abspath(__file__)))
 ATX = os.environ.get("ATX", os.path.join(TOP, "crates", "atx", "out", "atx"))
-PORT = 9300  # and the node's number
+PORTS = (9300, 9320)  # of each worker; a node's is its number more
+PORT = PORTS[0]
 BUSY = b"HTTP/1.1 503 "
 PATIENCE = 60
 
-# Counts what the program itself asks for, and refuses one of these. The file's two numbers: how many there were, which to refuse.
+FRAMES = 62
+NAMES = 6
+LIBRARIES = ("rattle_", "libc::heap::", "std_heap::", "std_alloc::", "std_collections::", "std::", "core::")
+
+# Counts what the program itself asks for, and refuses one of these. The file's numbers: how many there were, which to refuse, and where
+# in the program the calls stood that led to the refused one, innermost first.
 REFUSING = r"""
 #define _GNU_SOURCE
 #include <dlfcn.h>
@@ -60,10 +74,13 @@ REFUSING = r"""
 #include <sys/mman.h>
 
 extern void *__libc_malloc(size_t), *__libc_calloc(size_t, size_t), *__libc_realloc(void *, size_t), *__libc_memalign(size_t, size_t);
-static uintptr_t from, to;
+#define FRAMES 62
+extern void *__libc_stack_end;
+static uintptr_t base, from, to;
 static volatile uint64_t *numbers;
 
 static int find(struct dl_phdr_info *it, size_t size, void *unused) {
+    base = it->dlpi_addr;
     for (int at = 0; at < it->dlpi_phnum; at++)
         if (it->dlpi_phdr[at].p_type == PT_LOAD && it->dlpi_phdr[at].p_flags & PF_X) {
             uintptr_t begin = it->dlpi_addr + it->dlpi_phdr[at].p_vaddr, end = begin + it->dlpi_phdr[at].p_memsz;
@@ -76,26 +93,38 @@ static int find(struct dl_phdr_info *it, size_t size, void *unused) {
 __attribute__((constructor)) static void begin(void) {
     const char *name = getenv("GROWTHS");
     int file = name ? open(name, O_RDWR) : -1;
-    void *shared = file < 0 ? MAP_FAILED : mmap(0, 16, PROT_READ | PROT_WRITE, MAP_SHARED, file, 0);
+    void *shared = file < 0 ? MAP_FAILED : mmap(0, 8 * (2 + FRAMES), PROT_READ | PROT_WRITE, MAP_SHARED, file, 0);
     dl_iterate_phdr(find, 0);
     if (shared != MAP_FAILED) numbers = shared;
 }
 
-static int refused(void *caller) {
-    if (!numbers || (uintptr_t)caller < from || (uintptr_t)caller >= to) return 0;
+static int is_program(uintptr_t place) { return place >= from && place < to; }
+
+/* A frame is the caller's frame and the place to return to; each lies on the stack above the one that it calls. */
+static void note(uintptr_t *frame) {
+    for (int at = 0; at < FRAMES && is_program(frame[1]); at++) {
+        numbers[2 + at] = frame[1] - base;
+        if (frame[0] <= (uintptr_t)frame || frame[0] + 2 * sizeof *frame > (uintptr_t)__libc_stack_end) return;
+        frame = (uintptr_t *)frame[0];
+    }
+}
+
+static int refused(uintptr_t *frame) {
+    if (!numbers || !is_program(frame[1])) return 0;
     if (++numbers[0] != numbers[1]) return 0;
+    note(frame);
     errno = ENOMEM;
     return 1;
 }
 
-#define CALLER __builtin_return_address(0)
-void *malloc(size_t size) { return refused(CALLER) ? 0 : __libc_malloc(size); }
-void *calloc(size_t count, size_t size) { return refused(CALLER) ? 0 : __libc_calloc(count, size); }
-void *realloc(void *old, size_t size) { return refused(CALLER) ? 0 : __libc_realloc(old, size); }
-void *aligned_alloc(size_t align, size_t size) { return refused(CALLER) ? 0 : __libc_memalign(align, size); }
-void *memalign(size_t align, size_t size) { return refused(CALLER) ? 0 : __libc_memalign(align, size); }
+#define FRAME __builtin_frame_address(0)
+void *malloc(size_t size) { return refused(FRAME) ? 0 : __libc_malloc(size); }
+void *calloc(size_t count, size_t size) { return refused(FRAME) ? 0 : __libc_calloc(count, size); }
+void *realloc(void *old, size_t size) { return refused(FRAME) ? 0 : __libc_realloc(old, size); }
+void *aligned_alloc(size_t align, size_t size) { return refused(FRAME) ? 0 : __libc_memalign(align, size); }
+void *memalign(size_t align, size_t size) { return refused(FRAME) ? 0 : __libc_memalign(align, size); }
 int posix_memalign(void **to, size_t align, size_t size) {
-    void *it = refused(CALLER) ? 0 : __libc_memalign(align, size);
+    void *it = refused(FRAME) ? 0 : __libc_memalign(align, size);
     if (!it) return ENOMEM;
     *to = it;
     return 0;
@@ -125,26 +154,50 @@ class Memory:
         source, self.library = os.path.join(room, "refusing.c"), os.path.join(room, "refusing.so")
         with open(source, "w", encoding="utf-8") as file:
             file.write(REFUSING)
-        subprocess.run([os.environ.get("CC", "cc"), "-O2", "-w", "-shared", "-fPIC", "-o", self.library, source, "-ldl"], check=True)
+        flags = ["-O2", "-w", "-fno-omit-frame-pointer", "-fno-optimize-sibling-calls", "-shared", "-fPIC"]
+        subprocess.run([os.environ.get("CC", "cc"), *flags, "-o", self.library, source, "-ldl"], check=True)
         self.numbers = os.path.join(room, "numbers")
 
     def start(self, nth, words, **how):
         """The program, to which its n-th growth is refused; none where n is 0."""
         with open(self.numbers, "wb") as file:
-            file.write(struct.pack("=QQ", 0, nth))
+            file.write(struct.pack(f"={2 + FRAMES}Q", 0, nth, *[0] * FRAMES))
         env = {**os.environ, "LD_PRELOAD": self.library, "GROWTHS": self.numbers}
         return subprocess.Popen([ATX, *words], env=env, stderr=subprocess.PIPE, **how)
 
-    def growths(self):
+    def read(self):
         with open(self.numbers, "rb") as file:
-            return struct.unpack("=QQ", file.read(16))[0]
+            return struct.unpack(f"={2 + FRAMES}Q", file.read())
+
+    def growths(self):
+        return self.read()[0]
+
+    def where(self):
+        """The functions that led to the growth that was refused, innermost first."""
+        found = (named(place) for place in self.read()[2:] if place)
+        return tuple(it for it in found if not it.startswith(LIBRARIES))[:NAMES]
 
 
-def filtered(memory, nth, words, given):
-    """Status, output and growths of a command that doesn't serve."""
-    it = memory.start(nth, words, stdin=subprocess.PIPE, stdout=subprocess.PIPE)
-    out, said = it.communicate(given, timeout=PATIENCE)
-    return it.returncode, out, said, memory.growths()
+@functools.cache
+def symbols():
+    """The program's functions by their places, in order."""
+    listed = subprocess.run(["nm", ATX], capture_output=True, text=True, check=False).stdout
+    found = re.findall(r"^([0-9a-f]+) [tT] (.*)$", listed, re.M)
+    return sorted((int(place, 16), name) for place, name in found)
+
+
+def named(place):
+    at = bisect.bisect_right(symbols(), (place,)) - 1
+    return re.sub(r"(::)?<#[0-9a-f]+>", "", symbols()[at][1]) if at >= 0 else hex(place)
+
+
+class Filtered:
+    """What a command did that doesn't serve: its status, and what it printed and said."""
+
+    def __init__(self, memory, nth, words, given=b""):
+        it = memory.start(nth, words, stdin=subprocess.PIPE, stdout=subprocess.PIPE)
+        self.out, self.said = it.communicate(given, timeout=PATIENCE)
+        self.status, self.growths = it.returncode, memory.growths()
 
 
 def is_whole(data):
@@ -201,30 +254,59 @@ def taken(listeners):
 
 
 def ticked(memory, nth, listener):
-    """Status, what was printed and posted, and growths of `tick`."""
-    status, out, said, growths = filtered(memory, nth, ["tick", "--to", f"http://127.0.0.1:{listener.port}"], b"")
-    return status, out + b"".join(data for _, data in listener.taken()), said, growths
+    """`tick`, which printed what it posted."""
+    it = Filtered(memory, nth, ["tick", "--to", f"http://127.0.0.1:{listener.port}"])
+    it.out += b"".join(data for _, data in listener.taken())
+    return it
 
 
 class Wrong(Exception):
     """What came out otherwise than it may."""
 
 
-def refusals(run, machine=False):
-    """What came of each growth that was refused, of a command that doesn't serve, and perhaps uses the machine."""
+class Came:
+    """What came of the growths that were refused, how often, and what is to be told of single ones."""
+
+    def __init__(self, names):
+        self.names, self.counts, self.places, self.wrong = names, collections.Counter(), collections.Counter(), []
+
+    def refuse(self, memory, growths, run, judge):
+        """Refuses each of these growths, as far as there are so many."""
+        for nth in growths:
+            try:
+                it = run(nth)
+                if it.growths < nth:
+                    return
+                kind = judge(it)
+            except Wrong as fault:
+                kind = "wrong"
+                self.wrong.append(f"    growth {nth}: {fault}")
+            self.counts[kind] += 1
+            if self.names and kind not in ASKED_FOR:
+                self.places[kind, memory.where()] += 1
+
+    def lines(self, name):
+        row = f"{name:<28}{shown([sum(self.counts.values()), *(self.counts[kind] for kind in KINDS)])}"
+        places = [f"    {count} {kind}: {' < '.join(where)}" for (kind, where), count in self.places.items()]
+        return "\n".join([row, *places, *self.wrong])
+
+
+def has_said(said, whole):
+    """Whether that is said on standard error which is said with memory, or nothing, or why it ended."""
+    return said in (b"", whole) or said.startswith(b"atx: ") and said.count(b"\n") == 1 and said.endswith(b"\n")
+
+
+def refusals(memory, came, run, machine=False):
+    """A command that doesn't serve, and perhaps uses the machine."""
     whole = run(0)
-    came, nth = collections.Counter(), 1
-    if whole[2]:
-        raise Wrong(f"with memory it says {whole[2]!r}")
-    allowed = [whole[:2], (9, b""), *([(8, b""), (8, whole[1])] if machine else [])]
-    while True:
-        status, out, said, growths = run(nth)
-        if growths < nth:
-            return whole[3], came
-        if said or (status, out) not in allowed:
-            raise Wrong(f"growth {nth}: status {status}, {out!r}, {said!r}")
-        came["none" if (status, out) == whole[:2] else str(status)] += 1
-        nth += 1
+    allowed = [(whole.status, whole.out), (9, b""), *([(8, b""), (8, whole.out)] if machine else [])]
+
+    def judge(it):
+        if (it.status, it.out) not in allowed or not has_said(it.said, whole.said):
+            raise Wrong(f"status {it.status}, {it.out!r}, {it.said!r}")
+        return "none" if (it.status, it.out, it.said) == (whole.status, whole.out, whole.said) else str(it.status)
+
+    came.refuse(memory, range(1, 2**32), run, judge)
 
 
 def messages(schedule):
@@ -274,8 +356,9 @@ class Asked:
     """What a node of a role is asked: its lines, with a `wait` for each request that is to come first; the requests; and the journal
     that it comes up with."""
 
-    def __init__(self, role, node, asked, files=NO_FILES, ending=b"\n"):
-        self.role, self.node, self.files, self.ending, self.requests, self.lines = role, node, files, ending, [], []
+    def __init__(self, role, node, asked, files=NO_FILES, ending=b"\n", options=()):
+        self.role, self.node, self.files, self.ending, self.options = role, node, files, ending, options
+        self.requests, self.lines = [], []
         awaited = 0
         for it in asked:
             if isinstance(it, bytes):
@@ -299,7 +382,7 @@ class Asked:
 
     def words(self, journal, turns):
         counted = [] if turns is None else ["--turns", str(turns)]
-        return [self.role, "--listen", f"127.0.0.1:{PORT + self.node}", "--journal", journal, *counted]
+        return [self.role, "--listen", f"127.0.0.1:{PORT + self.node}", "--journal", journal, *counted, *self.options]
 
     def given(self):
         return "".join(line + "\n" for line in self.lines).encode()
@@ -482,6 +565,8 @@ def lacks_one(posts, whole):
 
 def compared(whole, it, asked):
     """What came of a growth that was refused."""
+    if it.said and not it.said.endswith(b"\n"):
+        raise Wrong(f"it said {it.said!r}")
     if it.status == 0 and (it.answers, it.out, it.files) == (whole.answers, whole.out, whole.files):
         if it.posts == whole.posts:
             return "503" if it.busy else "closed" if it.closed else "none"
@@ -499,7 +584,7 @@ def compared(whole, it, asked):
     found, answered = kept(it.files), len(it.answers)
     least = whole.records[answered - 1] if answered else kept(asked.files)
     most = whole.records[min(answered, len(whole.records) - 1)] if whole.records else kept(asked.files)
-    if not is_beginning(least, found) or not is_beginning(found, most):
+    if found not in (least, most) and not (is_beginning(least, found) and is_beginning(found, most)):
         raise Wrong(f"{len(found)} records, where there are {len(least)} to {len(most)}")
     if not comes_up(asked, it.journal):
         raise Wrong("it doesn't come up again")
@@ -510,30 +595,16 @@ def listening(node):
     return [Listener(PORT + other) for other in range(1, 5) if other != node]
 
 
-def each(whole, growths, run, asked):
-    """What came of each of these growths."""
-    came = collections.Counter()
-    for nth in growths:
-        it = run(nth)
-        if it.growths < nth:
-            break
-        try:
-            came[compared(whole, it, asked)] += 1
-        except Wrong as fault:
-            raise Wrong(f"growth {nth}: {fault}") from fault
-    return came
-
-
-def serving(memory, room, asked):
+def serving(memory, room, came, asked, anew=False):
+    """A node that serves, and perhaps writes its journal anew."""
     listeners = listening(asked.node)
     try:
         whole = Served(memory, room, listeners, asked, 0, looks=True)
         again = Served(memory, room, listeners, asked, 0)
         right = whole.status == 0 and whole.out.endswith(asked.ending) and len(whole.answers) == len(asked.requests)
-        if not right or compared(whole, again, asked) != "none":
+        if not right or anew and not whole.files[1] or compared(whole, again, asked) != "none":
             raise Wrong(f"with memory: status {whole.status}, {whole.out!r}, {len(whole.answers)} answers, {whole.said!r}")
-        came = each(whole, range(1, 2**32), lambda nth: Served(memory, room, listeners, asked, nth), asked)
-        return whole.growths, came
+        came.refuse(memory, range(1, 2**32), lambda nth: Served(memory, room, listeners, asked, nth), lambda it: compared(whole, it, asked))
     finally:
         for it in listeners:
             it.close()
@@ -555,12 +626,12 @@ class Timed:
     LAST, AWAITED = b"root 1-1 aborted\n", 8
 
     def __init__(self, memory, room, listeners, asked, nth):
-        self.records, self.busy, self.closed, self.growths = [[]], 0, 0, 0
+        self.records, self.busy, self.closed, self.growths = [[]] * len(asked.requests), 0, 0, 0
         self.journal = os.path.join(room, "journal")
         lay(self.journal, NO_FILES)
         with begun(memory, room, asked, nth, asked.words(self.journal, None)) as (it, out):
             self.answers = [asks(PORT + asked.node, data) for data in asked.requests] if is_up(it, out) else []
-            self.first = memory.growths()
+            self.first, self.said = memory.growths(), b""
             self.status = self.wait(it, out)
             time.sleep(0.2)
             self.growths = memory.growths()
@@ -578,13 +649,12 @@ class Timed:
         raise Wrong("what is due isn't done")
 
 
-def timing(memory, room, asked):
+def timing(memory, room, came, asked):
     listeners = listening(asked.node)
     try:
         whole = Timed(memory, room, listeners, asked, 0)
         growths = range(whole.first + 1, whole.growths + 1)
-        came = each(whole, growths, lambda nth: Timed(memory, room, listeners, asked, nth), asked)
-        return sum(came.values()), came
+        came.refuse(memory, growths, lambda nth: Timed(memory, room, listeners, asked, nth), lambda it: compared(whole, it, asked))
     finally:
         for it in listeners:
             it.close()
@@ -595,99 +665,174 @@ def framed(*bodies):
 
 
 START = b"\1\0\0\0\1"
-# Starts of 65,531 bytes with their mark: behind one more the journal is written anew at the end of a turn.
-LONG = framed(b"\x0b\0\0\0\0", *[START] * 6552)
-# A journal of version 1, with a decision for one participant.
-OLD = framed(START, b"\6\0\0\0\1\0\0\0\1\0\1\0\1\0\x1dhttp://127.0.0.1:9303/p/d/1-1\0\0")
+BAD = b"\1\0\0\0\5\1\0"
+
+
+def decided(number, addresses):
+    """The decision of a transaction with a participant at each of these addresses."""
+    seats = b"".join(seat.to_bytes(2, "big") + len(it).to_bytes(2, "big") + it + b"\0\0" for seat, it in enumerate(addresses, 1))
+    return b"\6\0\0\0\1" + number.to_bytes(4, "big") + len(addresses).to_bytes(2, "big") + seats
+
+
+def waiting():
+    return decided(1, [f"{url(3)}/p/d/1-1".encode()])
+
+
+def old():
+    """A journal of version 1, with a decision for one participant."""
+    return framed(START, waiting())
+
+
+def long():
+    """A journal of 65,536 bytes less a start, so that behind one more it is written anew at the end of a turn: a decision that waits for
+    its one participant, and others that are over."""
+    far = b"http://a.example/" + b"a" * 1900
+    bodies = [b"\x0b\0\0\0\0", START, waiting()]
+    for number in range(2, 10):
+        bodies += [decided(number, 4 * [far]), b"\x08\0\0\0\1" + number.to_bytes(4, "big")]
+    while len(framed(*bodies)) < 65_526:
+        bodies.append(START)
+    return framed(*bodies)
 
 
 def commands(memory, room):
     """Each command's name and how it is tried."""
     def plain(words, given=b""):
-        return lambda: refusals(lambda nth: filtered(memory, nth, words, given))
+        return lambda came: refusals(memory, came, lambda nth: Filtered(memory, nth, words, given))
 
-    def tick():
+    def tick(came):
         listener = Listener(PORT + 8)
         try:
-            return refusals(lambda nth: ticked(memory, nth, listener), machine=True)
+            refusals(memory, came, lambda nth: ticked(memory, nth, listener), machine=True)
         finally:
             listener.close()
 
-    def bad():
+    def auditing(more):
+        """An audit of the journals that a commit leaves, and of a line more."""
+        def run(came):
+            asked = messages(PLAIN)
+            roles = {2: "coordinator", 3: "participant"}
+            files = {number: left_by(memory, room, role, number, asked[number]) for number, role in roles.items()}
+            lines = "".join(f"journal {url(number)} {' '.join(it.hex() or '-' for it in both)}\n" for number, both in files.items())
+            plain(["audit"], (lines + more).encode())(came)
+        return run
+
+    def looking(words, file):
+        """A command that reads this file as a journal."""
+        def run(came):
+            journal = os.path.join(room, "looked")
+            lay(journal, (file, b""))
+            plain([*words, journal])(came)
+        return run
+
+    def bad(came):
         journal = os.path.join(room, "bad")
 
         def run(nth):
-            lay(journal, (b"\1\0\0\0\5\1\0", b""))
-            return filtered(memory, nth, Asked("coordinator", 2, []).words(journal, 0), b"")
-        return refusals(run, machine=True)
+            lay(journal, (BAD, b""))
+            return Filtered(memory, nth, Asked("coordinator", 2, []).words(journal, 0))
+        refusals(memory, came, run, machine=True)
 
-    def node(role, number, schedule, ending):
-        return lambda: serving(memory, room, Asked(role, number, messages(schedule)[number], NO_FILES, ending))
+    def node(role, number, schedule, ending, options=()):
+        return lambda came: serving(memory, room, came, Asked(role, number, messages(schedule)[number], NO_FILES, ending, options))
 
     def behind(role, number):
         """A node that went down before its last request."""
-        def run():
+        def run(came):
             *asked, last = messages(PLAIN)[number]
             files = left_by(memory, room, role, number, asked)
             if not kept(files):
                 raise Wrong("it has promised nothing")
-            return serving(memory, room, Asked(role, number, [TICK, TICK, last], files))
+            serving(memory, room, came, Asked(role, number, [TICK, TICK, last], files))
         return run
 
-    def old():
-        return serving(memory, room, Asked("coordinator", 2, [TICK, TICK, messages(PLAIN)[2][-1]], (OLD, b"")))
+    def on(file):
+        """A coordinator that comes up on a journal with a decision for one participant."""
+        return lambda came: serving(memory, room, came, Asked("coordinator", 2, [TICK, TICK, messages(PLAIN)[2][-1]], (file, b"")), anew=True)
 
-    def timer():
-        return timing(memory, room, Asked("coordinator", 2, messages("nodes 2\nbegin 1 2 700\nflush 99\n")[2]))
+    def timer(came):
+        timing(memory, room, came, Asked("coordinator", 2, messages("nodes 2\nbegin 1 2 700\nflush 99\n")[2]))
 
-    yield "--help", plain(["--help"])
-    yield "help", plain(["help"])
-    yield "help coordinator", plain(["help", "coordinator"])
-    yield "--version", plain(["--version"])
-    yield "faulty words", plain(["cell", "--state", "Nowhere"])
-    yield "check", plain(["check", "--path", "/work"], WORK)
-    yield "check, refused", plain(["check"], b"<a>")
-    yield "cell", plain(["cell", "--state", "None"], PREPARED)
-    yield "make", plain(["make", "--seed", "1", "--steps", "60"])
-    yield "tick", tick
-    yield "replay, refused", plain(["replay"], b"nodes 1\nup 1\nfoo\n")
-    yield "replay", plain(["replay"], PLAIN.encode())
-    yield "replay --bytes --settle", plain(["replay", "--bytes", "--settle"], FAULTS.encode())
-    yield "initiator, a bad line", plain(Asked("initiator", 1, []).words(os.path.join(room, "none"), 0), b"wait\nfoo\n")
-    yield "coordinator, a bad journal", bad
-    yield "participant", node("participant", 3, PLAIN, b"leaf 1-1 d committed\n")
-    yield "participant, up again", behind("participant", 3)
-    yield "coordinator", node("coordinator", 2, PLAIN, b"root 1-1 committed\n")
-    yield "coordinator, up again", behind("coordinator", 2)
-    yield "coordinator, an old journal", old
-    yield "coordinator, a long journal", lambda: serving(memory, room, Asked("coordinator", 2, [], (LONG, b"")))
-    yield "coordinator, interposed", node("coordinator", 3, MANY, b"sub 1-1 committed\n")
-    yield "coordinator, its own timer", timer
-    yield "initiator", node("initiator", 1, PLAIN, b"told 1-1 committed\n")
+    return {
+        "--help": plain(["--help"]),
+        "help": plain(["help"]),
+        "help coordinator": plain(["help", "coordinator"]),
+        "--version": plain(["--version"]),
+        "faulty words": plain(["cell", "--state", "Nowhere"]),
+        "check": plain(["check", "--path", "/work"], WORK),
+        "check, refused": plain(["check"], b"<a>"),
+        "cell": plain(["cell", "--state", "None"], PREPARED),
+        "make": plain(["make", "--seed", "1", "--steps", "60"]),
+        "tick": tick,
+        "audit": auditing(""),
+        "audit, a bad line": auditing("journal\n"),
+        "journal": looking(["journal"], old()),
+        "journal, a bad one": looking(["journal"], BAD),
+        "journal --hex": looking(["journal", "--hex", "http://a.example"], old()),
+        "replay, refused": plain(["replay"], b"nodes 1\nup 1\nfoo\n"),
+        "replay": plain(["replay"], PLAIN.encode()),
+        "replay --bytes --settle": plain(["replay", "--bytes", "--settle"], FAULTS.encode()),
+        "initiator, a bad line": plain(Asked("initiator", 1, []).words(os.path.join(room, "none"), 0), b"wait\nfoo\n"),
+        "coordinator, a bad journal": bad,
+        "participant": node("participant", 3, PLAIN, b"leaf 1-1 d committed\n"),
+        "participant, up again": behind("participant", 3),
+        "coordinator": node("coordinator", 2, PLAIN, b"root 1-1 committed\n"),
+        "coordinator --log": node("coordinator", 2, PLAIN, b"root 1-1 committed\n", ["--log"]),
+        "coordinator, up again": behind("coordinator", 2),
+        "coordinator, an old journal": on(old()),
+        "coordinator, a long journal": on(long()),
+        "coordinator, interposed": node("coordinator", 3, MANY, b"sub 1-1 committed\n"),
+        "coordinator, its own timer": timer,
+        "initiator": node("initiator", 1, PLAIN, b"told 1-1 committed\n"),
+    }
 
 
 KINDS = ("9", "503", "none", "8", "closed", "unsent")
+ASKED_FOR = ("9", "503")
 
 
 def shown(cells):
     return "".join(f"{cell:>8}" for cell in cells)
 
 
+class Worker:
+    """Tries commands, one after another, at its own ports and in its own folder."""
+
+    commands = {}
+
+    @classmethod
+    def begin(cls, ports, room):
+        global PORT
+        PORT = ports.get()
+        room = tempfile.mkdtemp(dir=room)
+        cls.commands = commands(Memory(room), room)
+
+    @classmethod
+    def work(cls, job):
+        name, names = job
+        came = Came(names)
+        try:
+            cls.commands[name](came)
+        except Wrong as fault:
+            return False, f"{name:<28} {fault}"
+        return not came.wrong, came.lines(name)
+
+
 def main(words):
     if not os.access(ATX, os.X_OK):
         sys.exit("memory: build the program first: ./atx --version")
-    right = True
-    print(f"{'':<28}{shown(['growths', *KINDS])}")
+    names, begins = "--names" in words, tuple(it for it in words if it != "--names")
     with tempfile.TemporaryDirectory() as room:
-        for name, tried in commands(Memory(room), room):
-            if words and not name.startswith(tuple(words)):
-                continue
-            try:
-                growths, came = tried()
-                print(f"{name:<28}{shown([growths, *(came[kind] for kind in KINDS)])}", flush=True)
-            except Wrong as fault:
-                print(f"{name:<28} {fault}", flush=True)
-                right = False
+        jobs = [(name, names) for name in commands(None, room) if not begins or name.startswith(begins)]
+        ports = multiprocessing.SimpleQueue()
+        for it in PORTS:
+            ports.put(it)
+        print(f"{'':<28}{shown(['growths', *KINDS])}", flush=True)
+        right = True
+        with multiprocessing.Pool(len(PORTS), Worker.begin, (ports, room)) as workers:
+            for is_right, lines in workers.imap(Worker.work, jobs):
+                print(lines, flush=True)
+                right = right and is_right
     return 0 if right else 1
 
 

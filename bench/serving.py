@@ -6,7 +6,7 @@
 Each of COUNT (500) rounds asks, one after another on connections of their own: a `Committed` of a transaction that the coordinator
 doesn't know, which leaves no record; and a transaction without participants: `CreateCoordinationContext`, `Register` for completion,
 and `Commit`, whose decision is written and synced before the answer, and told by a post. It prints requests a second, and the ratios to
-http.server for the same bytes, in one run. It stands outside the gate, and wants a built `atx`. Ports 9201 to 9203 are to be free.
+http.server for the same bytes, in one run. It stands outside the gate, and wants a built `atx`, or another program in ATX. Ports 9201 to 9203 are to be free.
 """
 import http.server
 import os
@@ -18,8 +18,8 @@ import tempfile
 import threading
 import time
 
-TOP = os.path.join(os.path.dirname(os.path.abspath(__file__)), "..")
-ATX = os.path.join(TOP, "atx")
+TOP = os.path.dirname(os.path.dirname(os.path.abspath(__file__)))
+ATX = os.environ.get("ATX", os.path.join(TOP, "crates", "atx", "out", "atx"))
 NODE, PLAIN, PEER = 9201, 9202, 9203
 WSA = "http://www.w3.org/2005/08/addressing"
 COOR = "http://docs.oasis-open.org/ws-tx/wscoor/2006/06"
