@@ -1,0 +1,9 @@
+pub mod ArmedCalls
+pub mod Behind
+pub mod DidTurn
+pub mod DidRequest
+pub mod DidStart
+pub mod ReadSteps
+pub mod ReadAnswers
+pub mod Happened
+pub mod Unmet
