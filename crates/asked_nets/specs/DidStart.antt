@@ -9,7 +9,7 @@ use Rattle.site_memory.specs.declared.machine.MemSite.{MemSite}
 use Rattle.site_model.specs.Told.{Made}
 use Rattle.mirrored_nets.specs.Took.{Adds, FellBack}
 use Rattle.mirrored_nets.specs.declared.judged.Armed.{Armed}
-use Rattle.call_readings.specs.ReadsStart.{StartsAs}
+use Rattle.call_readings.specs.ReadsStart.{LandsBy, StartsAs}
 use Rattle.call_readings.specs.declared.became.Became.{Became}
 use Rattle.call_readings.specs.declared.became.Became.TheVariants.{Stays, Falls, Halts, FallsAnew, HaltsAnew}
 
@@ -44,3 +44,4 @@ pub record DidStart (base : List ℕ) (old : MemSite) (new : Host) (calls : ℕ)
 pub record ReadStart (armed : Armed) (base : List ℕ) (old : MemSite) (new : Host) (landed stop : Bool) (calls : ℕ) : Type 0 where
   pub did : DidStart base old new calls
   pub reads : StartsAs armed did.made did.result did.became landed stop
+  pub lands : LandsBy did.became old did.site did.made landed

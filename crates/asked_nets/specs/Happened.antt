@@ -26,6 +26,12 @@ pub record Happened (count : ℕ) (w : World) (armed : Armed) (asked : WorldEven
   pub answers : StepAnswers w armed asked event down raw calls old new step
   pub mirrors : MirrorsAt count new (world_behind down w event)
 
+-- So does whatever was done and read.
+abbrev pub AskedHappen : Type 0
+AskedHappen =
+    (count : ℕ) (w : World) (armed : Armed) (asked event : WorldEvent) (down : Bool) (raw : List ℕ) (calls : ℕ) (old new : Seen) → count ≤ 8 → MirrorsAt count old w → IsOf asked event
+    → NetStepRead armed asked event down raw calls old new → Happened count w armed asked raw old new event down calls
+
 -- The node of that number hasn't used all its incarnations.
 abbrev pub HasIncarnations : World → ℕ → Type 0
 HasIncarnations w n = (x : Node) → nth n w.nodes ≡ Some x → last_incarnation x.journal < 4294967295

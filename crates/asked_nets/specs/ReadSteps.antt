@@ -1,5 +1,5 @@
 -- What is done to a net in memory as an event is asked for, and which event that was: the call of a node on its machine, whose calls are read.
-use Rattle.std.specs.Prelude.{ℕ, List, ◌+◌, ◌≡◌, ◌⊎◌, Bool, false, Option, Some, None, length, map}
+use Rattle.std.specs.Prelude.{ℕ, List, ◌+◌, ◌≡◌, ◌≤◌, ◌⊎◌, Bool, false, Option, Some, None, length, map}
 use Rattle.at_base.specs.declared.event.Local.{Local}
 use Rattle.at_model.specs.World.{Input, WorldEvent, Turn, Ask, Crash, Up, example_base, nth, put_nth}
 use Rattle.memory_net.specs.Closed.{IsExampleRequest}
@@ -57,9 +57,15 @@ pub record AsksNode (armed : Armed) (i : ℕ) (request : Local) (fates : List Bo
   pub hosts : new.hosts ≡ put_nth i behind old.hosts
   pub clocks : new.clocks ≡ old.clocks
 
--- What the machine of a node that starts is told: the armed call; or none, where its files have no Start.
+-- The files of a machine stand for records among which is a Start.
+pub record HasBegun (s : MemSite) : Type 0 where
+  pub last : ℕ
+  pub is : HasLast last s
+  pub some : 1 ≤ last
+
+-- What the machine of a node that starts is told of an armed call: nothing, where none is armed or its files have no Start; else that.
 abbrev pub IsTold : Armed → MemSite → Armed → Type 0
-IsTold armed s told = (told ≡ armed) ⊎ ((told ≡ calls.No) × HasLast 0 s)
+IsTold armed s told = ((told ≡ calls.No) × ((armed ≡ calls.No) ⊎ HasLast 0 s)) ⊎ ((told ≡ armed) × HasBegun s)
 
 -- A node that is down was started on its machine, whose files have room.
 pub record StartsNode (armed : Armed) (i : ℕ) (landed stop : Bool) (calls : ℕ) (old new : Seen) : Type 0 where
