@@ -59,10 +59,10 @@ some_up (Some n) e = (n, refl)
 
 -- where nothing is done
 pub is_nothing : (e : WorldEvent) (o : Option Node) (rests : Bool) → RestsBy e (is_some o) rests → rests ≡ true → IsNothing e o
-is_nothing (Turn i input fates until) o rests is yes = subst (IsNothing (Turn i input fates until)) (sym (none_up o (sym is ∙ yes))) tt
-is_nothing (Ask i request fates until) o rests is yes = subst (IsNothing (Ask i request fates until)) (sym (none_up o (sym is ∙ yes))) tt
-is_nothing (Crash i) o rests is yes = subst (IsNothing (Crash i)) (sym (none_up o (sym is ∙ yes))) tt
-is_nothing (Up i landed stop) o rests is yes = let n = some_up o (sym is ∙ yes) in subst (IsNothing (Up i landed stop)) (sym n.1) tt
+is_nothing (Turn i input fates until) o rests is held = subst (IsNothing (Turn i input fates until)) (sym (none_up o (sym is ∙ held))) tt
+is_nothing (Ask i request fates until) o rests is held = subst (IsNothing (Ask i request fates until)) (sym (none_up o (sym is ∙ held))) tt
+is_nothing (Crash i) o rests is held = subst (IsNothing (Crash i)) (sym (none_up o (sym is ∙ held))) tt
+is_nothing (Up i landed stop) o rests is held = let n = some_up o (sym is ∙ held) in subst (IsNothing (Up i landed stop)) (sym n.1) tt
 
 same_some : {A : Type 0} (x y : A) → Some x ≡ Some y → x ≡ y
 same_some x y e = cc
@@ -80,20 +80,20 @@ abbrev pub IsUpAt : ℕ → List Host → Type 0
 IsUpAt i hosts = (h : Host) → nth i hosts ≡ Some h → is_some h.node ≡ true
 
 pub turn_up : (i : ℕ) (input : Input) (fates : List Bool) (until : Option ℕ) (hosts : List Host) (rests : Bool) → RestsAt (Turn i input fates until) hosts rests → rests ≡ false → IsUpAt i hosts
-turn_up i input fates until hosts rests (h, here, is) no g there = subst (λ (z : Host). is_some z.node ≡ true) (same_some h g (sym here ∙ there)) (some_down h.node (sym is ∙ no))
+turn_up i input fates until hosts rests (h, here, is) not_held g there = subst (λ (z : Host). is_some z.node ≡ true) (same_some h g (sym here ∙ there)) (some_down h.node (sym is ∙ not_held))
 
 pub ask_up : (i : ℕ) (request : Local) (fates : List Bool) (until : Option ℕ) (hosts : List Host) (rests : Bool) → RestsAt (Ask i request fates until) hosts rests → rests ≡ false → IsUpAt i hosts
-ask_up i request fates until hosts rests (h, here, is) no g there = subst (λ (z : Host). is_some z.node ≡ true) (same_some h g (sym here ∙ there)) (some_down h.node (sym is ∙ no))
+ask_up i request fates until hosts rests (h, here, is) not_held g there = subst (λ (z : Host). is_some z.node ≡ true) (same_some h g (sym here ∙ there)) (some_down h.node (sym is ∙ not_held))
 
 pub crash_up : (i : ℕ) (hosts : List Host) (rests : Bool) → RestsAt (Crash i) hosts rests → rests ≡ false → IsUpAt i hosts
-crash_up i hosts rests (h, here, is) no g there = subst (λ (z : Host). is_some z.node ≡ true) (same_some h g (sym here ∙ there)) (some_down h.node (sym is ∙ no))
+crash_up i hosts rests (h, here, is) not_held g there = subst (λ (z : Host). is_some z.node ≡ true) (same_some h g (sym here ∙ there)) (some_down h.node (sym is ∙ not_held))
 
 pub start_down : (i : ℕ) (landed stop : Bool) (hosts : List Host) (rests : Bool) → RestsAt (Up i landed stop) hosts rests → rests ≡ false → (h : Host) → nth i hosts ≡ Some h → h.node ≡ None
-start_down i landed stop hosts rests (h, here, is) no g there = subst (λ (z : Host). z.node ≡ None) (same_some h g (sym here ∙ there)) (none_down h.node (sym is ∙ no))
+start_down i landed stop hosts rests (h, here, is) not_held g there = subst (λ (z : Host). z.node ≡ None) (same_some h g (sym here ∙ there)) (none_down h.node (sym is ∙ not_held))
 
 pub rests_read : (armed : Armed) (e : WorldEvent) (raw : List ℕ) (net : Seen) (rests : Bool) → RestsAt e net.hosts rests → rests ≡ true → NetStepRead armed e e false raw 0 net net
-rests_read armed e raw net rests (h, here, is) yes = inr (record {
-  rests = record { host = h; here = here; nothing = is_nothing e h.node rests is yes; same = refl };
+rests_read armed e raw net rests (h, here, is) held = inr (record {
+  rests = record { host = h; here = here; nothing = is_nothing e h.node rests is held; same = refl };
   same = refl;
   stays = refl;
   none = refl;

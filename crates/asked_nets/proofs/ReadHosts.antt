@@ -99,14 +99,14 @@ module _ (armed : Armed) (made : List Made) (answer : Locally) (x : Reading) (re
   pub request_steps : IsOfSteps x.became
   request_steps = subst IsOfSteps (sym request_is.became_is) R.of_steps
 
-long : (entries : List Entry) → length entries ≡ length (mades entries)
+pub long : (entries : List Entry) → length entries ≡ length (mades entries)
 long [] = refl
 long (x ∷ xs) = ap suc (long xs)
 
 abbrev pub Posts : (i count : ℕ) → Came → List Entry → List Entry → List Mail → List Mail → Type 0
 Posts i count came calls kept mails more = (mades kept ≡ take (kept_of came (mades calls)) (mades calls)) × (more ≡ mails ++ mails_in i count (sent_by (mades kept)))
 
-posted_so : (i count : ℕ) (came : Came) (b : Became) (calls kept : List Entry) (mails more : List Mail) → came ≡ came_to b → Posts i count came calls kept mails more
+pub posted_so : (i count : ℕ) (came : Came) (b : Became) (calls kept : List Entry) (mails more : List Mail) → came ≡ came_to b → Posts i count came calls kept mails more
     → more ≡ mails ++ mails_in i count (sent_by (take (kept_of (came_to b) (mades calls)) (mades calls)))
 posted_so i count came b calls kept mails more is (e, h) = h ∙ ap (λ ms. mails ++ mails_in i count (sent_by ms)) (e ∙ ap (λ z. take (kept_of z (mades calls)) (mades calls)) is)
 

@@ -17,7 +17,6 @@ use Rattle.mirrored_nets.specs.StruckStarts.{IsMarked, may_fail}
 use Rattle.mirrored_nets.specs.StruckTurns.{IsToldOf}
 use Rattle.mirrored_nets.specs.Took.{Adds, FellBack}
 use Rattle.mirrored_nets.specs.declared.judged.Armed.{Armed}
-use Rattle.mirrored_nets.specs.declared.judged.Armed.TheVariants as arms
 use Rattle.call_readings.specs.ReadsStart.{ReadsStart, StartsAs}
 use Rattle.call_readings.specs.declared.became.Became.{Became}
 use Rattle.call_readings.specs.declared.became.Became.TheVariants as becomes
@@ -38,12 +37,14 @@ by_disk (ends.Bad file place) armed e = absurd cc
 by_disk ends.Spent armed e = absurd cc
 by_disk ends.Full armed e = absurd cc
 
-none_fails : (fault : StartFault) → may_fail fault arms.No ≡ true → ⊥
-none_fails ends.NoMemory e = cc
-none_fails ends.Disk e = cc
-none_fails (ends.Bad file place) e = cc
-none_fails ends.Spent e = cc
-none_fails ends.Full e = cc
+-- as what is answered says it
+pub did_so : (base : List ℕ) (old : MemSite) (new : Host) (many calls : ℕ) → calls ≡ many → DidStart base old new many → DidStart base old new calls
+did_so base old new many calls same = subst (DidStart base old new) (sym same)
+
+pub read_so : (armed : Armed) (base : List ℕ) (old : MemSite) (new : Host) (landed lands stop : Bool) (many calls : ℕ) → landed ≡ lands → stop ≡ true → calls ≡ many → ReadStart armed base old new lands true many
+    → ReadStart armed base old new landed stop calls
+read_so armed base old new landed lands stop many calls l s same r =
+    subst (λ z. ReadStart armed base old new z stop calls) (sym l) (subst (λ z. ReadStart armed base old new lands z calls) (sym s) (subst (ReadStart armed base old new lands true) (sym same) r))
 
 module _ (base : List ℕ) (result : Result Node StartFault) (old t : MemSite) (new : Host) (before many : ℕ) (calls : List Entry) (begins : Begins base result old t) (since : before ≡ length (calls_in old.device))
     (adds : Adds (mades calls) old t) (counts : many ≡ length calls) (armed : Armed) where
@@ -75,10 +76,6 @@ module _ (base : List ℕ) (result : Result Node StartFault) (old t : MemSite) (
         subst (FallsSo armed (mades calls) old t kept choice S) (sym is) (falls_read armed (mades calls) old t kept choice S n R) in
         record { did = did_fall; reads = so.0; lands = so.1 }
 
-    -- not where nothing was told
-    pub no_fall : armed ≡ arms.No → stop_in armed (mades calls) ≡ Some (kept, choice) → ⊥
-    no_fall none stops = let e : None ≡ Some (kept, choice) = sym (ap (λ a. stop_in a (mades calls)) none) ∙ stops in cc
-
   -- a call failed
   module _ (fault : StartFault) (is : result ≡ Err fault) (fails : may_fail fault armed ≡ true) (off : new.node ≡ None)
       (fell : (z : MemSite) → before ≡ length (calls_in z.device) → FellBack z t many Keep new.site) where
@@ -98,6 +95,3 @@ module _ (base : List ℕ) (result : Result Node StartFault) (old t : MemSite) (
           reads = subst (λ r. StartsAs armed (mades calls) r becomes.Halts (nat_eq (length (mades calls)) 6) true) (sym disk) so.0;
           lands = so.1;
         })
-
-    pub no_halt : armed ≡ arms.No → ⊥
-    no_halt none = none_fails fault (subst (λ a. may_fail fault a ≡ true) none fails)

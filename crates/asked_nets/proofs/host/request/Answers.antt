@@ -1,4 +1,4 @@
-use Rattle.std.proofs.Common.{sym, ◌∙◌}
+use Rattle.std.proofs.Common.{length, refl, sym, ◌∙◌}
 use Rattle.site_memory.specs.Entries.{mades}
 use Rattle.call_readings.specs.Reads.{ReadsRequest}
 use Rattle.asked_nets.proofs.NetReads.{still_isnt}
@@ -7,9 +7,9 @@ use Rattle.asked_nets.proofs.host.request.Goals as goal
 
 pub returns-clause-did : goal.returns-clause-did
 returns-clause-did c =
-    did_request c.args.number c.args.count _ c.len-many.result c.args.local.now c.args.node _ c.args.site _ c.in_ok-host.host _ _ c.ask-locally.result c.came_to-came.result c.read-reading.result.became c.in_ok-calls.calls.now
+    did_request c.args.number c.args.count _ (length c.in_ok-calls.calls.now) c.args.local.now c.args.node _ c.args.site _ c.in_ok-host.host _ _ c.ask-locally.result c.came_to-came.result c.read-reading.result.became c.in_ok-calls.calls.now
     c.kept_of.result.now c.requires.room c.ask-locally.ensures c.counts_of-before.ensures.calls (c.in_ok-calls.ensures.adds c.args.site c.counts_of-before.ensures) c.in_ok-answers.ensures.answers c.came_to-came.ensures
-    c.in_ok-host.ensures.left (c.kept_of.ensures, c.in-Ok.ensures) c.len-many.ensures
+    c.in_ok-host.ensures.left (c.kept_of.ensures, c.in-Ok.ensures) refl
 
 pub returns-clause-read : goal.returns-clause-read
 returns-clause-read c = λ here.
@@ -17,7 +17,7 @@ returns-clause-read c = λ here.
     c.requests_are_read.ensures c.args.number c.args.count c.args.local.now c.args.node c.ask-locally.new.node c.args.site c.ask-locally.new.site c.args.armed c.ask-locally.result (mades c.in_ok-calls.calls.now) here
     c.requires.room c.ask-locally.ensures (c.in_ok-calls.ensures.adds c.args.site c.counts_of-before.ensures) c.in_ok-had_room.ensures.room in
     record {
-      did = did_request c.args.number c.args.count _ c.len-many.result c.args.local.now c.args.node _ c.args.site _ c.in_ok-host.host _ _ c.ask-locally.result c.came_to-came.result c.read-reading.result.became c.in_ok-calls.calls.now c.kept_of.result.now c.requires.room c.ask-locally.ensures c.counts_of-before.ensures.calls (c.in_ok-calls.ensures.adds c.args.site c.counts_of-before.ensures) c.in_ok-answers.ensures.answers c.came_to-came.ensures c.in_ok-host.ensures.left (c.kept_of.ensures, c.in-Ok.ensures) c.len-many.ensures;
+      did = did_request c.args.number c.args.count _ (length c.in_ok-calls.calls.now) c.args.local.now c.args.node _ c.args.site _ c.in_ok-host.host _ _ c.ask-locally.result c.came_to-came.result c.read-reading.result.became c.in_ok-calls.calls.now c.kept_of.result.now c.requires.room c.ask-locally.ensures c.counts_of-before.ensures.calls (c.in_ok-calls.ensures.adds c.args.site c.counts_of-before.ensures) c.in_ok-answers.ensures.answers c.came_to-came.ensures c.in_ok-host.ensures.left (c.kept_of.ensures, c.in-Ok.ensures) refl;
       reads =
           request_reads c.args.armed (mades c.in_ok-calls.calls.now) c.ask-locally.result c.read-reading.result (λ b fates until r h. c.read-reading.ensures b fates until r (h ∙ sym c.halts_locally.ensures)) R;
       of_steps =

@@ -14,7 +14,7 @@ returns-clause-step c = λ armed raw.
     seen_by armed false (Crash c.args.number) raw 0 c.args.self (record { hosts = c.put_host.new.hosts.items; clocks = c.self.inside.clocks.items; letters = c.self.inside.letters.items }) inside c.self.view_is
     (crashes c.args.number c.self.inside.hosts.items c.put_host.new.hosts.items c.self.inside.clocks.items c.self.inside.letters.items c.in_ok-taken_out.field-0 c.go_down.result c.in_ok-taken_out.ensures.here
     (c.in_ok-put_host.ensures.put ∙ c.in_ok-taken_out.ensures.place c.go_down.result) armed raw _
-    (c.requires c.in_ok-taken_out.field-0 (subst (λ (s : Seen). nth c.args.number s.hosts ≡ Some c.in_ok-taken_out.field-0) c.self.view_is c.in_ok-taken_out.ensures.here)) c.into_parts-node.ensures.1 c.go_down.ensures)
+    (c.requires.up c.in_ok-taken_out.field-0 (subst (λ (s : Seen). nth c.args.number s.hosts ≡ Some c.in_ok-taken_out.field-0) c.self.view_is c.in_ok-taken_out.ensures.here)) c.into_parts-node.ensures.1 c.go_down.ensures)
 
 pub invariant_of-result : goal.invariant_of-result
 invariant_of-result c =

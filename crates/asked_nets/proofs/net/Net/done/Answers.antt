@@ -13,11 +13,11 @@ use Rattle.asked_nets.proofs.NetReads.{RestsAt, ask_up, crash_up, rests_read, st
 use Rattle.asked_nets.proofs.net.Net.done.Goals as goal
 
 pub returns-then-branch-clause-of : goal.returns-then-branch-clause-of
-returns-then-branch-clause-of c = subst (λ e. IsOf (event_of c.args.asked.now) (event_of e)) (sym c.in-Ok.ensures) (of_same (event_of c.args.asked.now))
+returns-then-branch-clause-of c = subst (λ e. IsOf (event_of c.args.asked.now) (event_of e)) (sym c.in-Ok.ensures.cases) (of_same (event_of c.args.asked.now))
 
 pub returns-then-branch-clause-step : goal.returns-then-branch-clause-step
 returns-then-branch-clause-step c = λ count w few mirrors.
-    subst (λ e. NetStepRead c.args.armed (event_of c.args.asked.now) (event_of e) false c.args.raw.now 0 c.args.self c.args.self) (sym c.in-Ok.ensures)
+    subst (λ e. NetStepRead c.args.armed (event_of c.args.asked.now) (event_of e) false c.args.raw.now 0 c.args.self c.args.self) (sym c.in-Ok.ensures.cases)
     (rests_read c.args.armed (event_of c.args.asked.now) c.args.raw.now c.args.self c.in_ok-rests.field-0 c.in_ok-rests.ensures.rests c.if-branch.true)
 
 pub turn-requires-clause-up : goal.turn-requires-clause-up
@@ -27,12 +27,15 @@ turn-requires-clause-up c =
 
 pub ask-requires-clause-up : goal.ask-requires-clause-up
 ask-requires-clause-up c =
-    ask_up c.in-Ask.node c.in-Ask.local.now c.in-Ask.fates c.in-Ask.until c.args.self.hosts c.in_ok-rests.field-0
+    ask_up c.in-Ask.node c.in-Ask.local c.in-Ask.fates c.in-Ask.until c.args.self.hosts c.in_ok-rests.field-0
     (subst (λ e. RestsAt (event_of e) c.args.self.hosts c.in_ok-rests.field-0) c.in-Ask.is c.in_ok-rests.ensures.rests) c.if-branch.false
 
 pub crash-requires : goal.crash-requires
 crash-requires c =
-    crash_up c.in-Crash.node c.args.self.hosts c.in_ok-rests.field-0 (subst (λ e. RestsAt (event_of e) c.args.self.hosts c.in_ok-rests.field-0) c.in-Crash.is c.in_ok-rests.ensures.rests) c.if-branch.false
+    record {
+      up =
+          crash_up c.in-Crash.node c.args.self.hosts c.in_ok-rests.field-0 (subst (λ e. RestsAt (event_of e) c.args.self.hosts c.in_ok-rests.field-0) c.in-Crash.is c.in_ok-rests.ensures.rests) c.if-branch.false;
+    }
 
 pub start-requires-clause-down : goal.start-requires-clause-down
 start-requires-clause-down c =
@@ -47,7 +50,7 @@ returns-in-Turn-clause-of c =
 pub returns-in-Ask-clause-of : goal.returns-in-Ask-clause-of
 returns-in-Ask-clause-of c =
     subst (λ e. IfOk c.ask.result (λ t. IsOf (event_of e) (event_of t.event))) (sym c.in-Ask.is)
-    (if_ok c.ask.result c.ask.ensures.of (λ t is. of_ask c.in-Ask.node c.in-Ask.local.now c.in-Ask.fates c.in-Ask.until (event_of t.event) is))
+    (if_ok c.ask.result c.ask.ensures.of (λ t is. of_ask c.in-Ask.node c.in-Ask.local c.in-Ask.fates c.in-Ask.until (event_of t.event) is))
 
 pub returns-in-Up-clause-of : goal.returns-in-Up-clause-of
 returns-in-Up-clause-of c =
@@ -75,7 +78,7 @@ returns-in-Turn-clause-may c = λ count w few mirrors may.
 pub returns-in-Ask-clause-may : goal.returns-in-Ask-clause-may
 returns-in-Ask-clause-may c = λ count w few mirrors may.
     c.ask.ensures.may count w c.args.raw.now few mirrors
-    (may_ask count w c.args.raw.now c.args.self c.in-Ask.node c.in-Ask.local.now c.in-Ask.fates c.in-Ask.until (subst (λ e. MayAsk count w (event_of e) c.args.raw.now c.args.self) c.in-Ask.is may))
+    (may_ask count w c.args.raw.now c.args.self c.in-Ask.node c.in-Ask.local c.in-Ask.fates c.in-Ask.until (subst (λ e. MayAsk count w (event_of e) c.args.raw.now c.args.self) c.in-Ask.is may))
 
 pub returns-in-Up-clause-may : goal.returns-in-Up-clause-may
 returns-in-Up-clause-may c = λ count w few mirrors may.
