@@ -1,6 +1,6 @@
 -- What was done to the hosts of a net, as what was read of them.
-use Rattle.std.specs.Prelude.{ℕ, List, ◌+◌, ◌≡◌, ◌≤◌, ◌<◌, ◌^◌, ◌⊎◌, Bool, Err, IsErrAnd, None, Ok, Option, Result, Some, false, is_some, length, map, not, true}
-use Rattle.std.proofs.Common.{ap, inl, inr, refl, subst, sym, ◌∙◌}
+use Rattle.std.specs.Prelude.{ℕ, List, ◌+◌, ◌≡◌, ◌≤◌, Bool, Err, IsErrAnd, None, Ok, Option, Result, Some, false, is_some, length, map, not, true}
+use Rattle.std.proofs.Common.{ap, inr, refl, subst, sym, ◌∙◌}
 use Rattle.at_base.specs.declared.event.Local.{Local}
 use Rattle.at_model.specs.World.{Input, World, WorldEvent, Turn, Ask, Crash, Up, example_base, node_of, nth, put_nth}
 use Rattle.memory_net.specs.Closed.{IsExampleRequest}
@@ -10,7 +10,6 @@ use Rattle.memory_net.specs.declared.letter.Letter.{Letter}
 use Rattle.node_at.specs.declared.node.Node.{Node}
 use Rattle.site_memory.specs.declared.machine.MemSite.{MemSite}
 use Rattle.mirrored_nets.specs.Goings.{IsBrought, IsNothing, IsSet, WentDown, ms_of}
-use Rattle.mirrored_nets.specs.Mirrors.{Mirrors}
 use Rattle.mirrored_nets.specs.NetSteps.{IsGiven}
 use Rattle.mirrored_nets.specs.Seen.{Seen}
 use Rattle.mirrored_nets.specs.StruckTurns.{IsToldOf}

@@ -4,8 +4,8 @@ use Rattle.std.proofs.Common.{ap, arith, inl, inr, refl, subst, sym, ◌∙◌}
 use Rattle.std.proofs.lemmas.Bool.{leb-true}
 use Rattle.at_base.specs.declared.event.Local.{Local}
 use Rattle.at_model.specs.Recovery.{last_incarnation}
-use Rattle.at_model.specs.World.{Input, World, WorldEvent, Turn, Ask, Crash, Up, example_base, nth, put_nth, world_step}
-use Rattle.memory_net.specs.Closed.{ExamplesAskSo, IsExampleRequest}
+use Rattle.at_model.specs.World.{Input, World, WorldEvent, Turn, Ask, Crash, Up, example_base, put_nth, world_step}
+use Rattle.memory_net.specs.Closed.{ExamplesAskSo}
 use Rattle.memory_net.specs.Calls.{Begins}
 use Rattle.memory_net.specs.Mails.{Mail, mail_of, mails_in}
 use Rattle.memory_net.specs.declared.host.Host.{Host}
@@ -14,22 +14,20 @@ use Rattle.node_at.specs.declared.fault.StartFault.TheVariants.{Disk}
 use Rattle.node_at.specs.declared.node.Node.{Node}
 use Rattle.node_events.specs.NodeEvents.{RequestsAreEvents}
 use Rattle.site_memory.specs.Devices.{calls_in, opening_in}
-use Rattle.site_memory.specs.Sites.{told_of}
 use Rattle.site_memory.specs.Tells.{reads}
 use Rattle.site_memory.specs.declared.arm.Choice.{Choice}
 use Rattle.site_memory.specs.declared.arm.Choice.TheVariants.{Keep}
 use Rattle.site_memory.specs.declared.machine.MemSite.{MemSite}
 use Rattle.site_model.specs.Told.{Made, sent_by}
 use Rattle.mirrored_nets.specs.Fates.{AllDone, anew_of, disk_part}
-use Rattle.mirrored_nets.specs.Goings.{IsBrought, IsSet, NetsMirror, ms_of}
+use Rattle.mirrored_nets.specs.Goings.{IsSet, NetsMirror, ms_of}
 use Rattle.mirrored_nets.specs.Mirrors.{Mirrors}
 use Rattle.mirrored_nets.specs.Seen.{Seen}
 use Rattle.mirrored_nets.specs.StruckStarts.{IsBegun, IsStanding, may_fail}
 use Rattle.mirrored_nets.specs.StruckTurns.{IsToldOf}
 use Rattle.mirrored_nets.specs.Took.{AnswersSo, ComesTo, EndsSo, FellBack, LeftSo, TookRequest, TookTurn, kept_of}
-use Rattle.mirrored_nets.specs.TookStart.{HasLast, TookStart}
+use Rattle.mirrored_nets.specs.TookStart.{HasLast}
 use Rattle.mirrored_nets.specs.Unarmed.{IsTold}
-use Rattle.mirrored_nets.specs.declared.came.Came.TheVariants as cames
 use Rattle.mirrored_nets.specs.declared.judged.Armed.{Armed}
 use Rattle.mirrored_nets.specs.declared.judged.Armed.TheVariants as arms
 use Rattle.mirrored_nets.proofs.FallenHosts.{NetLaws}
@@ -47,11 +45,11 @@ use Rattle.reading_laws.specs.ReadingsAsk.{IsWhatCame}
 use Rattle.reading_laws.specs.RequestsAreRead.{IsRequestHere}
 use Rattle.asked_nets.specs.Behind.{goes_anew, world_behind}
 use Rattle.asked_nets.specs.DidRequest.{DidRequest, ReadRequest}
-use Rattle.asked_nets.specs.DidStart.{DidStart, LeftStart, ReadStart}
+use Rattle.asked_nets.specs.DidStart.{DidStart, LeftStart}
 use Rattle.asked_nets.specs.DidTurn.{DidTurn, ReadTurn}
 use Rattle.asked_nets.specs.Happened.{AskedHappen, Happened, MirrorsAt}
-use Rattle.asked_nets.specs.ReadAnswers.{AskAnswers, MoveAnswers, TurnAnswers}
-use Rattle.asked_nets.specs.ReadSteps.{AsksNode, HasBegun, IsTold as IsToldBy, MovesRead, StartsNode, TurnsNode}
+use Rattle.asked_nets.specs.ReadAnswers.{AskAnswers, TurnAnswers}
+use Rattle.asked_nets.specs.ReadSteps.{AsksNode, IsTold as IsToldBy, MovesRead, StartsNode, TurnsNode}
 use Rattle.asked_nets.proofs.GoneAnew.{AnewLaws, answered_falls, answered_stays, effects_halts, turned_falls, turned_halts, turned_stays}
 use Rattle.asked_nets.proofs.RequestCalls.{asked_anew}
 

@@ -1,5 +1,5 @@
 -- Behind a request of a node in a net that mirrors a world its journal isn't written anew.
-use Rattle.std.specs.Prelude.{ℕ, List, [], ◌∷◌, ◌++◌, ◌≡◌, drop, length}
+use Rattle.std.specs.Prelude.{ℕ, List, [], ◌≡◌, drop, length}
 use Rattle.std.proofs.Common.{ap, append-nil, inr, refl, subst, sym, ◌∙◌}
 use Rattle.std.proofs.Math.Seq.{drop-append_seam}
 use Rattle.at_base.specs.declared.event.Event.TheVariants as events

@@ -1,6 +1,6 @@
 -- Hosts behind what was asked of them: a node that is up serves and hasn't halted, and its machine can be told which call is to fail.
-use Rattle.std.specs.Prelude.{ℕ, List, ◌≡◌, Bool, Err, IfSome, None, Ok, Option, Result, Some, false}
-use Rattle.std.proofs.Common.{ap, refl, subst, sym, ◌∙◌}
+use Rattle.std.specs.Prelude.{ℕ, List, ◌≡◌, Bool, Err, IfSome, None, Ok, Result, Some, false}
+use Rattle.std.proofs.Common.{ap, subst, sym, ◌∙◌}
 use Rattle.at_base.specs.declared.event.Local.{Local}
 use Rattle.memory_net.specs.Calls.{Begins, IsServing}
 use Rattle.memory_net.specs.Mails.{Mail}
@@ -18,7 +18,6 @@ use Rattle.site_model.specs.Site.{Counts}
 use Rattle.mirrored_nets.specs.Mirrors.{MayServe}
 use Rattle.mirrored_nets.specs.Took.{AnswersSo, EndsSo}
 use Rattle.mirrored_nets.specs.Unarmed.{IsReady, IsTold}
-use Rattle.mirrored_nets.specs.declared.came.Came.{Came}
 use Rattle.mirrored_nets.specs.declared.came.Came.TheVariants as cames
 use Rattle.mirrored_nets.proofs.AskedMachines.{request_kept}
 use Rattle.mirrored_nets.proofs.EndedTurns.{turn_kept}
@@ -28,7 +27,7 @@ use Rattle.call_readings.specs.Reads.{came_to}
 use Rattle.call_readings.specs.declared.became.Became.{Became}
 use Rattle.call_readings.specs.declared.became.Became.TheVariants as becomes
 use Rattle.asked_nets.specs.DidRequest.{DidRequest}
-use Rattle.asked_nets.specs.DidStart.{CameUp, DidStart, LeftStart}
+use Rattle.asked_nets.specs.DidStart.{DidStart, LeftStart}
 use Rattle.asked_nets.specs.DidTurn.{DidTurn}
 
 abbrev Runs : Node → Type 0

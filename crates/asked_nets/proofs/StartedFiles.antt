@@ -30,7 +30,7 @@ use Rattle.site_memory.specs.declared.arm.Choice.TheVariants.{Keep}
 use Rattle.site_memory.specs.declared.machine.MemSite.{MemSite}
 use Rattle.site_memory.specs.declared.range.Which.TheVariants.{First, Second}
 use Rattle.site_memory.proofs.Images.{seen_image}
-use Rattle.site_model.specs.Told.{Files, Made}
+use Rattle.site_model.specs.Told.{Made}
 use Rattle.torn_appends.specs.TornAppends.{stands_behind}
 use Rattle.mirrored_nets.specs.Kept.{kept_at}
 use Rattle.mirrored_nets.specs.DueStarts.{CanBegin, DownCanBegin, StandSo}

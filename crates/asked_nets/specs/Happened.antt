@@ -1,6 +1,5 @@
 -- An event that is asked for of a net in memory that mirrors a world.
-use Rattle.std.specs.Prelude.{ℕ, List, ◌+◌, ◌≤◌, ◌<◌, ◌^◌, ◌≡◌, Bool, Some, length, map}
-use Rattle.at_base.specs.declared.event.Local.{Local}
+use Rattle.std.specs.Prelude.{ℕ, List, ◌≤◌, ◌<◌, ◌≡◌, Bool, Some, map}
 use Rattle.at_model.specs.Recovery.{last_incarnation}
 use Rattle.at_model.specs.World.{Node, World, WorldEvent, Turn, Ask, Crash, Up, node_of, nth}
 use Rattle.memory_net.specs.Mails.{mail_of}

@@ -1,5 +1,5 @@
 -- What the call of a node gave, as the world says it of the event that it was.
-use Rattle.std.specs.Prelude.{ℕ, List, Bool, Option}
+use Rattle.std.specs.Prelude.{ℕ, List, Bool}
 use Rattle.std.proofs.Common.{inl, inr}
 use Rattle.at_base.specs.declared.event.Local.{Local}
 use Rattle.at_model.specs.World.{Input, World, WorldEvent, Turn, Ask}

@@ -1,5 +1,5 @@
 -- Where a machine is to stop.
-use Rattle.std.specs.Prelude.{ℕ, List, ◌||◌, Bool, true, false, None, Option, Some, if◌then◌else◌, length, nat_eq, nat_lt}
+use Rattle.std.specs.Prelude.{ℕ, List, ◌||◌, None, Option, Some, if◌then◌else◌, length, nat_eq, nat_lt}
 use Rattle.site_memory.specs.declared.arm.Choice.{Choice}
 use Rattle.site_model.specs.Told.{Made}
 use Rattle.mirrored_nets.specs.Kept.{kept_at}

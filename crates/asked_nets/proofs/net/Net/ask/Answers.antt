@@ -1,4 +1,4 @@
-use Rattle.std.proofs.Common.{ap, arith, subst, sym, true≢false, ◌∙◌, ◌≡◌, ◌≤◌, length, List, ℕ}
+use Rattle.std.proofs.Common.{ap, arith, subst, sym, true≢false, ◌∙◌, ◌≡◌, length, List, ℕ}
 use Rattle.std.specs.Prelude.{Some, false, map}
 use Rattle.at_model.specs.World.{Ask, nth}
 use Rattle.memory_net.specs.Mails.{mail_of}

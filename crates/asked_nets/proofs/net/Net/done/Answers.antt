@@ -1,15 +1,12 @@
-use Rattle.std.proofs.Common.{ap, inl, subst, sym, ◌∙◌}
+use Rattle.std.proofs.Common.{inl, subst, sym}
 use Rattle.std.specs.Prelude.{IfOk, false}
 use Rattle.world_laws.specs.Events.{event_of, input_of}
-use Rattle.mirrored_nets.specs.PossibleMoves.{IsNumbered}
-use Rattle.mirrored_nets.specs.Rooms.{HasRoomAt}
 use Rattle.mirrored_nets.proofs.HostSteps.{if_ok}
-use Rattle.at_model.specs.World.{node_of}
 use Rattle.call_readings.specs.AskedEvents.{IsOf}
 use Rattle.asked_nets.specs.Happened.{MayAsk}
 use Rattle.asked_nets.specs.ReadSteps.{NetStepRead}
 use Rattle.asked_nets.proofs.AskedOf.{may_ask, may_turn, may_up, of_ask, of_same, of_turn, of_up}
-use Rattle.asked_nets.proofs.NetReads.{RestsAt, ask_up, crash_up, rests_read, start_down, still_isnt, turn_up}
+use Rattle.asked_nets.proofs.NetReads.{RestsAt, ask_up, crash_up, rests_read, start_down, turn_up}
 use Rattle.asked_nets.proofs.net.Net.done.Goals as goal
 
 pub returns-then-branch-clause-of : goal.returns-then-branch-clause-of

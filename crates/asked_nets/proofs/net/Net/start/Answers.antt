@@ -1,5 +1,5 @@
-use Rattle.std.proofs.Common.{ap, arith, length, subst, sym, ◌∙◌, ◌≡◌, ◌≤◌, List, ℕ}
-use Rattle.std.specs.Prelude.{None, Some, false}
+use Rattle.std.proofs.Common.{ap, arith, length, subst, sym, ◌∙◌, ◌≡◌, List, ℕ}
+use Rattle.std.specs.Prelude.{Some, false}
 use Rattle.at_model.specs.World.{Up, nth}
 use Rattle.mirrored_nets.specs.DueStarts.{CanBegin}
 use Rattle.mirrored_nets.specs.Seen.{Seen}
