@@ -1,0 +1,10 @@
+pub mod AskedOf
+pub mod GoneAnew
+pub mod MadeCalls
+pub mod NetReads
+pub mod ReadHosts
+pub mod ReadMoves
+pub mod RequestCalls
+pub mod ServingHosts
+pub mod StartCalls
+pub mod StartedFiles

@@ -1,0 +1,14 @@
+pub mod ArmedCalls
+pub mod Behind
+pub mod BegunFiles
+pub mod Counted
+pub mod DidRequest
+pub mod DidStart
+pub mod DidTurn
+pub mod Halts
+pub mod Happened
+pub mod ReadAnswers
+pub mod ReadSteps
+pub mod Rests
+pub mod Stops
+pub mod Unmet
