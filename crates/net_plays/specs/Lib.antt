@@ -1,0 +1,5 @@
+pub mod EventTexts
+pub mod MessageBytes
+pub mod Plays
+pub mod PlayedLines
+pub mod NetReports

@@ -1,0 +1,46 @@
+//! Why a play doesn't go on.
+
+use asked_nets::fault::Fault;
+use settlement::run_error::RunError;
+use std::alloc::AllocError;
+
+/// Why a play doesn't go on.
+#[derive(Clone, Copy, Debug, PartialEq, Eq)]
+pub enum PlayError {
+    /// There was no memory.
+    NoMemory,
+    /// Its world would have more than 4,294,967,295 events.
+    TooManyEvents,
+    /// The journal of a node has no room for another record.
+    Full,
+    /// What was asked for can't be done to the nodes.
+    Apart,
+}
+
+impl From<AllocError> for PlayError {
+    ghost use Rattle.std.specs.Prelude.{◌≡◌};
+    ghost use Rattle.net_plays.specs.declared.play_error.PlayError.TheVariants.{NoMemory};
+
+    ghost from_gives = { λ _ e. e ≡ NoMemory };
+
+    fn from(_error: AllocError) -> PlayError {
+        PlayError::NoMemory
+    }
+}
+
+/// Why what was asked for wasn't done.
+pub(crate) fn error_of(fault: Fault) -> PlayError {
+    match fault {
+        Fault::NoMemory => PlayError::NoMemory,
+        Fault::Full => PlayError::Full,
+        Fault::Apart => PlayError::Apart,
+    }
+}
+
+/// Why the events that bring a world to rest weren't found.
+pub(crate) fn error_in(error: RunError) -> PlayError {
+    match error {
+        RunError::NoMemory => PlayError::NoMemory,
+        RunError::TooManyEvents => PlayError::TooManyEvents,
+    }
+}

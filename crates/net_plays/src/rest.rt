@@ -1,0 +1,54 @@
+//! Events that are asked for behind one another, with no call armed: those by which nodes come up, and those that bring a world to rest.
+
+ghost use Rattle.std.specs.Prelude.{◌≤◌, IfOk, map};
+ghost use Rattle.net_plays.specs.Plays.{AllHappen, IsBegun, Rests, ups_from};
+ghost use Rattle.world_laws.specs.Events.{event_of};
+
+use crate::asked_events::coming_up;
+use crate::play::Play;
+use crate::play_error::PlayError;
+use std::alloc::Global;
+use world_laws::event::WorldEvent;
+
+impl Play {
+    /// So many nodes come up.
+    fn all_up(self, alloc: Global, count: u8) -> Result<Play, PlayError>
+        ensures { IfOk result (AllHappen (ups_from count 1) self) }
+    {
+        let mut play = self;
+        for place in 0..count {
+            play = play.happen(alloc, None, &coming_up(place + 1), &[], 0)?;
+        }
+        Ok(play)
+    }
+
+    /// So many nodes, each of which comes up.
+    pub(crate) fn begin(alloc: Global, count: u8) -> Result<Play, PlayError>
+        requires { (1 ≤ count) × (count ≤ 8) }
+        ensures { IfOk result (IsBegun count) }
+    {
+        let play = Play::opening(alloc, count)?;
+        play.all_up(alloc, count)
+    }
+
+    fn all_happen(self, alloc: Global, events: &[WorldEvent]) -> Result<Play, PlayError>
+        ensures { IfOk result (AllHappen (map event_of events.now) self) }
+    {
+        let mut play = self;
+        for event in events {
+            play = play.happen(alloc, None, event, &[], 0)?;
+        }
+        Ok(play)
+    }
+
+    /// Its world is brought to rest, where that is asked.
+    pub(crate) fn settle(self, alloc: Global, settle: bool) -> Result<Play, PlayError>
+        ensures { IfOk result (Rests settle self) }
+    {
+        if !settle {
+            return Ok(self);
+        }
+        let events = self.rest(alloc)?;
+        self.all_happen(alloc, events.as_slice())
+    }
+}
