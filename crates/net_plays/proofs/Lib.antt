@@ -10,3 +10,4 @@ pub mod TellingReports
 pub mod AgreeingReports
 pub mod PlayedRuns
 pub mod ReportedPlays
+pub mod PlayedEvents

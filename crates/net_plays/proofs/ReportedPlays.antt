@@ -24,11 +24,15 @@ use Rattle.site_memory.specs.Sites.{told_of}
 use Rattle.world_laws.specs.Moves.{ChangesByMoves}
 use Rattle.net_plays.specs.MessageBytes.{shown}
 use Rattle.net_plays.specs.NetReports.{IsNetReport, IsPlayOf}
-use Rattle.net_plays.specs.Plays.{IsPlayed, Play}
+use Rattle.net_plays.specs.PlayedLines.{TakesAll}
+use Rattle.net_plays.specs.Plays.{IsBegun, IsPlayed, Play, Rests}
 use Rattle.net_plays.proofs.AgreeingReports.{agreed_in_print}
 use Rattle.net_plays.proofs.PlayedRuns.{IsOfRun, comes_to_rest, is_safe, lines_run, play_run}
 use Rattle.net_plays.proofs.TellingReports.{on_one_line, shown_tells}
 use Rattle.net_plays.proofs.ToldPlays.{play_tells}
+
+pub is_play : (settles : Bool) (all : List Line) (count : ℕ) (first last play : Play) → count ≡ nodes_of all → IsBegun count first → TakesAll all first last → Rests settles last play → IsPlayOf settles all play
+is_play settles all count first last play many begun taken rests = record { first = first; begun = subst (λ n. IsBegun n first) many begun; last = last; lines = taken; rests = rests }
 
 pub few_mails : (ls : List Letter) → length ls < 2 ^ 64 → length (map mail_of ls) < 2 ^ 64
 few_mails ls few = subst (λ n. n < 2 ^ 64) (sym (length-map ls mail_of)) few

@@ -62,7 +62,7 @@ module _ (moves : ChangesByMoves) where
   happens_tell armed asked raw drawn p q t h =
       let none : t.down ≡ true → losses_of p.world t.event ≡ [] =
       λ is. anew_loses p.count p.world (call_of armed) asked raw p.net q.net t.event t.calls
-          (subst (λ d. Happened p.count p.world (call_of armed) asked raw p.net q.net t.event d t.calls) is t.happened) in
+      (subst (λ d. Happened p.count p.world (call_of armed) asked raw p.net q.net t.event d t.calls) is t.happened) in
       subst (λ v. IsTold v q.text) (sym t.world)
       (subst (IsTold (world_behind t.down p.world t.event)) (sym t.text)
       (told_more p.world (world_behind t.down p.world t.event) (node_of t.event) p.text (event_lines t.down (option_map fault_of armed) drawn p.world t.event)

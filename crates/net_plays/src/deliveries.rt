@@ -1,7 +1,6 @@
 //! Messages that go to their nodes.
 
-ghost use Rattle.std.specs.Prelude.{IfOk, map};
-ghost use Rattle.at_model.specs.World.{node_of};
+ghost use Rattle.std.specs.Prelude.{IfOk};
 ghost use Rattle.net_plays.specs.PlayedLines.{Comes, Delivers, Flushes, GoesTo};
 ghost use Rattle.world_laws.specs.Events.{event_of};
 

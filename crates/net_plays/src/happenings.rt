@@ -67,12 +67,7 @@ fn go_down(stepped: Stepped, alloc: Global, node: u8) -> Result<Stepped, PlayErr
 
 /// An event happens, behind whose steps its node went down, or didn't.
 #[tactic(auto, using(crate::proofs::Events::events_down, crate::proofs::Events::first_many, crate::proofs::Events::second_many))]
-fn step_by(
-    world: World,
-    alloc: Global,
-    event: WorldEvent,
-    down: bool,
-) -> Result<Stepped, PlayError>
+fn step_by(world: World, alloc: Global, event: WorldEvent, down: bool) -> Result<Stepped, PlayError>
     ensures count { IfOk result (λ s. s.world.count ≡ world.count) }
     ensures events { IfOk result (λ s. map event_of s.world.events ≡ map event_of world.events ++ events_by down (event_of event)) }
     ensures world { IfOk result (λ s. world_of s.world ≡ world_behind down (world_of world) (event_of event)) }
@@ -111,8 +106,6 @@ pub(crate) fn happen(
     let behind = behind_of(&world, &event);
     push_before(alloc, lines, &world, &event)?;
     let stepped = step_by(world, alloc, event, down)?;
-    push_event(
-        alloc, lines, node, fault, drawn, behind, before, &stepped,
-    )?;
+    push_event(alloc, lines, node, fault, drawn, behind, before, &stepped)?;
     Ok(stepped.world)
 }

@@ -2,7 +2,9 @@
 
 ghost use Rattle.std.specs.Prelude.{◌≡◌, IfOk};
 ghost use Rattle.armed_calls.specs.declared.fault.Fault.TheVariants as faults;
-ghost use Rattle.net_plays.specs.PlayedLines.{Brings, Takes, TakesAll};
+ghost use Rattle.at_model.specs.Views.{request};
+ghost use Rattle.net_plays.specs.PlayedLines.{Brings, Comes, Takes, TakesAll};
+ghost use Rattle.schedules.specs.Values.{bytes_in};
 
 use crate::asked_events::{asking, coming_up, turn};
 use crate::play::Play;

@@ -1,15 +1,14 @@
 //! A play on its way.
 
-ghost use Rattle.std.specs.Prelude.{◌≡◌, ◌≤◌, ◌-◌, IfOk, Option, is_some, length, map, option_map, slice_set};
-ghost use Rattle.armed_calls.specs.declared.fault.Armed.{Armed as Known};
+ghost use Rattle.std.specs.Prelude.{◌≡◌, ◌≤◌, ◌++◌, IfOk, Some, length, map, option_map};
 ghost use Rattle.at_model.specs.World.{nth};
+ghost use Rattle.model_laws.specs.Settlement.{settle};
 ghost use Rattle.net_plays.specs.PlayedLines.{marked, printed, with_armed};
 ghost use Rattle.net_plays.specs.Plays.{Happens, IsOpening, IsPlayed, armed_behind, fault_of};
 ghost use Rattle.replay_cmd.specs.Deliveries.{lowest};
 ghost use Rattle.replay_cmd.specs.Lines.{forged_line, no_message_line};
 ghost use Rattle.replay_cmd.specs.ReportOf.{armed_at, ended, receiver_in};
 ghost use Rattle.world_laws.specs.Events.{event_of};
-ghost use Rattle.world_laws.specs.Runs.{incarnation_at};
 
 use crate::happenings::happen;
 use crate::play_error::{PlayError, error_in, error_of};
@@ -71,13 +70,7 @@ fn armed_behind(
 {
     let armed = armed?;
     match asked {
-        WorldEvent::Crash { .. } => {
-            if was_up {
-                None
-            } else {
-                Some(armed)
-            }
-        }
+        WorldEvent::Crash { .. } => { if was_up { None } else { Some(armed) } }
         WorldEvent::Turn { .. } | WorldEvent::Ask { .. } | WorldEvent::Up { .. } => {
             still_armed(armed, (armed.call as usize).saturating_sub(calls) as u32)
         }
@@ -124,6 +117,7 @@ impl Play {
             armed: mut arms,
             mut lines,
         } = self;
+        let _count = world.count();
         let node = asked.node();
         let was_up = world.incarnation(node).is_some();
         let Taken {
@@ -223,11 +217,17 @@ impl Play {
         }
     }
 
+    /// Its world is that of the run of its events, and its nodes mirror it.
+    pub(crate) fn is_played(&self)
+        ensures { IsPlayed self.now }
+    {
+        let _lines = &self.lines;
+    }
+
     /// The nodes at its end, and what was printed, with the last line.
     pub(crate) fn into_report(self, alloc: Global) -> Result<(Net, Lines), AllocError>
         ensures net { IfOk result (λ r. r.0 ≡ self.net) }
         ensures text { IfOk result (λ r. r.1 ≡ self.text ++ ended self.world) }
-        ensures played { IsPlayed self }
     {
         let Play {
             net,
