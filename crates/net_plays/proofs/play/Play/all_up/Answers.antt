@@ -1,4 +1,4 @@
-use Rattle.std.specs.Prelude.{◌<◌, ◌+◌, None, []}
+use Rattle.std.specs.Prelude.{None, []}
 use Rattle.std.proofs.Common.{subst}
 use Rattle.net_plays.specs.Plays.{Happens}
 use Rattle.net_plays.proofs.PlayedEvents.{ups_next}
