@@ -11,3 +11,4 @@ pub mod AgreeingReports
 pub mod PlayedRuns
 pub mod ReportedPlays
 pub mod PlayedEvents
+pub mod StoppedPlays

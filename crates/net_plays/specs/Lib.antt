@@ -3,3 +3,4 @@ pub mod MessageBytes
 pub mod Plays
 pub mod PlayedLines
 pub mod NetReports
+pub mod Stops

@@ -4,15 +4,15 @@ ghost use Rattle.std.specs.Prelude.{◌≡◌, ◌≤◌, ◌<◌, ◌++◌, ◌
 ghost use Rattle.asked_nets.specs.Behind.{events_by, world_behind};
 ghost use Rattle.at_model.specs.World.{Crash, node_of, world_step};
 ghost use Rattle.net_plays.specs.EventTexts.{event_lines, losses_by};
-ghost use Rattle.net_plays.specs.declared.play_error.PlayError.TheVariants.{TooManyEvents};
+ghost use Rattle.settlement.specs.declared.run_error.RunError.TheVariants.{TooManyEvents};
 ghost use Rattle.world_laws.specs.Events.{event_of};
 ghost use Rattle.world_laws.specs.Moves.{losses_of, steps_of};
 ghost use Rattle.world_laws.specs.Runs.{world_of};
 
 use crate::event_lines::{behind_of, push_before, push_event};
-use crate::play_error::PlayError;
 use armed_calls::fault::Fault;
 use replay_cmd::lines::Lines;
+use settlement::run_error::RunError;
 use std::alloc::Global;
 use world_laws::event::WorldEvent;
 use world_laws::world::{Stepped, World};
@@ -21,7 +21,7 @@ use world_laws::world::{Stepped, World};
 const MOST: usize = 4_294_967_295;
 
 #[tactic(auto, using(crate::proofs::Events::one_more))]
-fn step(world: World, alloc: Global, event: WorldEvent) -> Result<Stepped, PlayError>
+fn step(world: World, alloc: Global, event: WorldEvent) -> Result<Stepped, RunError>
     ensures count { IfOk result (λ s. s.world.count ≡ world.count) }
     ensures events { IfOk result (λ s. map event_of s.world.events ≡ map event_of world.events ++ event_of event ∷ []) }
     ensures world { IfOk result (λ s. world_of s.world ≡ world_step (world_of world) (event_of event)) }
@@ -30,14 +30,14 @@ fn step(world: World, alloc: Global, event: WorldEvent) -> Result<Stepped, PlayE
     ensures many { IfErr result (λ e. e ≡ TooManyEvents → 4294967295 ≤ length world.events) }
 {
     if world.events().len() >= MOST {
-        return Err(PlayError::TooManyEvents);
+        return Err(RunError::TooManyEvents);
     }
     let stepped = world.step(alloc, event)?;
     Ok(stepped)
 }
 
 /// The node goes down behind the steps of an event.
-fn go_down(stepped: Stepped, alloc: Global, node: u8) -> Result<Stepped, PlayError>
+fn go_down(stepped: Stepped, alloc: Global, node: u8) -> Result<Stepped, RunError>
     ensures count { IfOk result (λ s. s.world.count ≡ stepped.world.count) }
     ensures events { IfOk result (λ s. map event_of s.world.events ≡ map event_of stepped.world.events ++ Crash node ∷ []) }
     ensures world { IfOk result (λ s. world_of s.world ≡ world_step (world_of stepped.world) (Crash node)) }
@@ -67,7 +67,7 @@ fn go_down(stepped: Stepped, alloc: Global, node: u8) -> Result<Stepped, PlayErr
 
 /// An event happens, behind whose steps its node went down, or didn't.
 #[tactic(auto, using(crate::proofs::Events::events_down, crate::proofs::Events::first_many, crate::proofs::Events::second_many))]
-fn step_by(world: World, alloc: Global, event: WorldEvent, down: bool) -> Result<Stepped, PlayError>
+fn step_by(world: World, alloc: Global, event: WorldEvent, down: bool) -> Result<Stepped, RunError>
     ensures count { IfOk result (λ s. s.world.count ≡ world.count) }
     ensures events { IfOk result (λ s. map event_of s.world.events ≡ map event_of world.events ++ events_by down (event_of event)) }
     ensures world { IfOk result (λ s. world_of s.world ≡ world_behind down (world_of world) (event_of event)) }
@@ -94,7 +94,7 @@ pub(crate) fn happen(
     down: bool,
     fault: Option<Fault>,
     drawn: u16,
-) -> Result<World, PlayError>
+) -> Result<World, RunError>
     ensures count { IfOk result (λ w. w.count ≡ world.count) }
     ensures events { IfOk result (λ w. map event_of w.events ≡ map event_of world.events ++ events_by down (event_of event)) }
     ensures world { IfOk result (λ w. world_of w ≡ world_behind down (world_of world) (event_of event)) }

@@ -2,7 +2,7 @@
 #![tactic(auto)]
 
 mod asked_events;
-mod deliveries;
+mod deliver;
 mod event_lines;
 mod happenings;
 mod lines;

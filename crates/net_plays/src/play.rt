@@ -1,9 +1,12 @@
 //! A play on its way.
 
-ghost use Rattle.std.specs.Prelude.{◌≡◌, ◌≤◌, ◌++◌, IfOk, Some, length, map, option_map};
+ghost use Rattle.std.specs.Prelude.{◌≡◌, ◌≤◌, ◌<◌, ◌+◌, ◌++◌, IfErr, IfOk, Some, length, map, option_map};
 ghost use Rattle.at_model.specs.World.{nth};
 ghost use Rattle.model_laws.specs.Settlement.{settle};
 ghost use Rattle.net_plays.specs.PlayedLines.{marked, printed, with_armed};
+ghost use Rattle.net_plays.specs.Stops.{Stops};
+ghost use Rattle.net_plays.specs.Stops.Why.{IsFull, HasMany};
+ghost use Rattle.net_plays.specs.declared.play_error.PlayError.TheVariants.{Full, TooManyEvents};
 ghost use Rattle.net_plays.specs.Plays.{Happens, IsOpening, IsPlayed, armed_behind, fault_of};
 ghost use Rattle.replay_cmd.specs.Deliveries.{lowest};
 ghost use Rattle.replay_cmd.specs.Lines.{forged_line, no_message_line};
@@ -11,13 +14,15 @@ ghost use Rattle.replay_cmd.specs.ReportOf.{armed_at, ended, receiver_in};
 ghost use Rattle.world_laws.specs.Events.{event_of};
 
 use crate::happenings::happen;
-use crate::play_error::{PlayError, error_in, error_of};
+use crate::play_error::PlayError;
 use armed_calls::fault::{Armed, Fault};
+use asked_nets::fault::Fault as Unmet;
 use asked_nets::net::{Net, Taken};
 use replay_cmd::arms::{Arms, still_armed};
 use replay_cmd::deliveries::Delivered;
 use replay_cmd::endings::push_ended;
 use replay_cmd::lines::Lines;
+use settlement::run_error::RunError;
 use settlement::settle::settle;
 use std::alloc::{AllocError, Global};
 use std::marker::Model;
@@ -108,7 +113,9 @@ impl Play {
         raw: &[u8],
         drawn: u16,
     ) -> Result<Play, PlayError>
-        ensures { IfOk result (Happens armed (event_of asked.now) raw.now drawn self) }
+        ensures done { IfOk result (Happens armed (event_of asked.now) raw.now drawn self) }
+        ensures full { IfErr result (λ e. e ≡ Full → Stops IsFull armed (event_of asked.now) raw.now self) }
+        ensures many { IfErr result (λ e. e ≡ TooManyEvents → Stops HasMany armed (event_of asked.now) raw.now self) }
     {
         let Play {
             net,
@@ -127,10 +134,12 @@ impl Play {
             calls,
         } = match net.take(alloc, asked, armed, raw) {
             Ok(taken) => taken,
-            Err(fault) => return Err(error_of(fault)),
+            Err(Unmet::NoMemory) => return Err(PlayError::NoMemory),
+            Err(Unmet::Full) => return Err(PlayError::Full),
+            Err(Unmet::Apart) => return Err(PlayError::Apart),
         };
         arms.set(node, armed_behind(armed, was_up, calls, asked));
-        let world = happen(
+        let world = match happen(
             alloc,
             world,
             &mut lines,
@@ -138,7 +147,11 @@ impl Play {
             down,
             fault_of(armed),
             drawn,
-        )?;
+        ) {
+            Ok(world) => world,
+            Err(RunError::NoMemory) => return Err(PlayError::NoMemory),
+            Err(RunError::TooManyEvents) => return Err(PlayError::TooManyEvents),
+        };
         Ok(Play {
             net,
             world,
@@ -165,7 +178,7 @@ impl Play {
     }
 
     /// Bytes that are a message, or ask for what is due, aren't handed to a node.
-    pub(crate) fn forge(self, alloc: Global, node: u8) -> Result<Play, PlayError>
+    pub(crate) fn forge(self, alloc: Global, node: u8) -> Result<Play, AllocError>
         ensures { IfOk result (λ p. p ≡ printed (forged_line node) self) }
     {
         let mut play = self;
@@ -174,7 +187,7 @@ impl Play {
     }
 
     /// There is no message of this number, or no node has its address.
-    pub(crate) fn no_message(self, alloc: Global, number: u64) -> Result<Play, PlayError>
+    pub(crate) fn no_message(self, alloc: Global, number: u64) -> Result<Play, AllocError>
         ensures { IfOk result (λ p. p ≡ printed (no_message_line number) self) }
     {
         let mut play = self;
@@ -183,7 +196,7 @@ impl Play {
     }
 
     /// The message of this number was delivered.
-    pub(crate) fn mark(self, number: u64) -> Result<Play, PlayError>
+    pub(crate) fn mark(self, number: u64) -> Result<Play, AllocError>
         ensures { IfOk result (λ p. p ≡ marked number self) }
     {
         let mut play = self;
@@ -209,11 +222,14 @@ impl Play {
 
     /// The events that bring its world to rest.
     pub(crate) fn rest(&self, alloc: Global) -> Result<Vec<WorldEvent>, PlayError>
-        ensures { IfOk result (λ events. map event_of events.items ≡ settle self.now.world) }
+        ensures events { IfOk result (λ events. map event_of events.items ≡ settle self.now.world) }
+        ensures many { IfErr result (λ e. e ≡ TooManyEvents → 4294967295 < length self.now.events + length (settle self.now.world)) }
+        ensures few { IfErr result (λ e. e ≡ Full → ⊥) }
     {
         match settle(alloc, &self.world) {
             Ok(events) => Ok(events),
-            Err(error) => Err(error_in(error)),
+            Err(RunError::NoMemory) => Err(PlayError::NoMemory),
+            Err(RunError::TooManyEvents) => Err(PlayError::TooManyEvents),
         }
     }
 

@@ -1,7 +1,5 @@
 //! Why a play doesn't go on.
 
-use asked_nets::fault::Fault;
-use settlement::run_error::RunError;
 use std::alloc::AllocError;
 
 /// Why a play doesn't go on.
@@ -25,22 +23,5 @@ impl From<AllocError> for PlayError {
 
     fn from(_error: AllocError) -> PlayError {
         PlayError::NoMemory
-    }
-}
-
-/// Why what was asked for wasn't done.
-pub(crate) fn error_of(fault: Fault) -> PlayError {
-    match fault {
-        Fault::NoMemory => PlayError::NoMemory,
-        Fault::Full => PlayError::Full,
-        Fault::Apart => PlayError::Apart,
-    }
-}
-
-/// Why the events that bring a world to rest weren't found.
-pub(crate) fn error_in(error: RunError) -> PlayError {
-    match error {
-        RunError::NoMemory => PlayError::NoMemory,
-        RunError::TooManyEvents => PlayError::TooManyEvents,
     }
 }

@@ -1,9 +1,12 @@
 //! `replay`: the report of a schedule, of what nodes did.
 
-ghost use Rattle.std.specs.Prelude.{◌≡◌, ◌++◌, ◌<◌, ◌^◌, IfOk, length, map};
+ghost use Rattle.std.specs.Prelude.{◌≡◌, ◌++◌, ◌<◌, ◌^◌, IfErr, IfOk, length, map};
 ghost use Rattle.memory_net.specs.Mails.{mail_of};
 ghost use Rattle.net_plays.specs.MessageBytes.{shown};
 ghost use Rattle.net_plays.specs.NetReports.{IsNetReport, IsPlayOf};
+ghost use Rattle.net_plays.specs.Stops.{HasNoReport};
+ghost use Rattle.net_plays.specs.Stops.Why.{HasMany, IsFull};
+ghost use Rattle.net_plays.specs.declared.play_error.PlayError.TheVariants.{Full, TooManyEvents};
 ghost use Rattle.replay_cmd.specs.Laws.{IsReplayable};
 ghost use Rattle.replay_cmd.specs.ReportOf.{ended, nodes_of};
 
@@ -22,7 +25,7 @@ use replay_cmd::options::Options;
 use schedules::line::{Line, Schedule};
 use settled::laws::settles;
 use site_memory::machine::MemSite;
-use std::alloc::Global;
+use std::alloc::{AllocError, Global};
 use world_laws::laws::changes_by_moves;
 
 /// A report, and the nodes that it is of, as they are at its end.
@@ -43,10 +46,12 @@ fn nodes_of(lines: &[Line]) -> u8
 }
 
 /// The play of a schedule.
-#[tactic(auto, using(crate::proofs::ReportedPlays::is_play))]
+#[tactic(auto, using(crate::proofs::ReportedPlays::is_play, crate::proofs::StoppedPlays::none_begun, crate::proofs::StoppedPlays::none_taken, crate::proofs::StoppedPlays::none_rested))]
 fn played(alloc: Global, schedule: &Schedule, settle: bool) -> Result<Play, PlayError>
     requires { IsReplayable schedule.now }
-    ensures { IfOk result (IsPlayOf settle schedule.now) }
+    ensures done { IfOk result (IsPlayOf settle schedule.now) }
+    ensures full { IfErr result (λ e. e ≡ Full → HasNoReport IsFull settle schedule.now) }
+    ensures many { IfErr result (λ e. e ≡ TooManyEvents → HasNoReport HasMany settle schedule.now) }
 {
     let lines = schedule.as_slice();
     let play = Play::begin(alloc, nodes_of(lines))?;
@@ -64,7 +69,7 @@ fn are_few(letters: &[Letter])
 }
 
 /// What is printed of a play, with the bytes of its letters where they are asked for, and its nodes.
-fn print(alloc: Global, play: Play, bytes: bool) -> Result<Replayed, PlayError>
+fn print(alloc: Global, play: Play, bytes: bool) -> Result<Replayed, AllocError>
     ensures net { IfOk result (λ r. r.net ≡ play.net) }
     ensures lines { IfOk result (λ r. r.lines ≡ shown bytes (map mail_of play.net.letters) (play.text ++ ended play.world)) }
     ensures few { IfOk result (λ r. length (map mail_of play.net.letters) < 2 ^ 64) }
@@ -84,7 +89,9 @@ fn print(alloc: Global, play: Play, bytes: bool) -> Result<Replayed, PlayError>
 /// which each message was posted stand behind its line, in hexadecimal.
 pub fn replay(alloc: Global, schedule: &Schedule, options: Options) -> Result<Replayed, PlayError>
     requires { IsReplayable schedule.now }
-    ensures { IfOk result (λ r. IsNetReport options schedule.now r.lines r.net) }
+    ensures report { IfOk result (λ r. IsNetReport options schedule.now r.lines r.net) }
+    ensures full { IfErr result (λ e. e ≡ Full → HasNoReport IsFull options.settle schedule.now) }
+    ensures many { IfErr result (λ e. e ≡ TooManyEvents → HasNoReport HasMany options.settle schedule.now) }
 {
     changes_by_moves();
     stays_closed::<MemSite>();
