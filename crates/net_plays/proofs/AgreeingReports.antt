@@ -1,8 +1,7 @@
 -- A report agrees in print, also where the bytes of its messages are printed.
-use Rattle.std.proofs.Common.{ℕ, suc, List, [], ◌∷◌, ◌++◌, ◌≡◌, ◌<◌, ◌^◌, Bool, true, false, Option, Some, None, refl, drop, length, map, sym, ap, subst, ◌∙◌}
+use Rattle.std.proofs.Common.{ℕ, suc, List, [], ◌∷◌, ◌++◌, ◌≡◌, ◌<◌, ◌^◌, Bool, true, false, refl, length, map, sym, ap, subst, ◌∙◌}
 use Rattle.std.specs.Prelude.{IfSome, codes}
 use Rattle.std.specs.List.{AllByRecursion}
-use Rattle.std.proofs.lemmas.List.{append_assoc}
 use Rattle.at_base.specs.declared.epr.Epr.{Epr}
 use Rattle.at_base.specs.declared.message.Message.{Message}
 use Rattle.at_base.specs.declared.message.Message.TheVariants as messages
@@ -12,7 +11,6 @@ use Rattle.hex.specs.Hex.{encode_lower}
 use Rattle.memory_net.specs.Closed.{IsExample, StaysClosed, closed}
 use Rattle.memory_net.specs.Mails.{Mail, mail_of}
 use Rattle.memory_net.specs.Stands.{AreMailsOf}
-use Rattle.mirrored_nets.specs.Seen.{Seen}
 use Rattle.model_laws.specs.Agreement.{IsAgreed}
 use Rattle.model_laws.proofs.Addresses.{examples_apart}
 use Rattle.printed_agreement.specs.PlainPosts.{IsOfNode, IsPlain, IsPlainMessage}
@@ -36,7 +34,7 @@ use Rattle.net_plays.specs.MessageBytes.{is_message, left_by, line_with, shown, 
 use Rattle.asked_nets.specs.Happened.{MirrorsAt}
 use Rattle.net_plays.specs.PlayedLines.{TakesAll}
 use Rattle.net_plays.specs.Plays.{IsBegun, Play, Rests}
-use Rattle.net_plays.proofs.PrintedPlays.{HoldsAt, play_prints}
+use Rattle.net_plays.proofs.PrintedPlays.{play_prints}
 use Rattle.net_plays.proofs.TellingReports.{hex_unbroken}
 
 -- messages of such nodes are plain

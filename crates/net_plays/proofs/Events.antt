@@ -1,5 +1,5 @@
 -- What happened so far, and one event more.
-use Rattle.std.proofs.Common.{◌+◌, ◌<◌, ◌≤◌, ◌≡◌, ◌++◌, ◌∷◌, List, refl, [], length, ap, ◌∙◌, sym, arith, ℕ, subst}
+use Rattle.std.proofs.Common.{◌<◌, ◌≤◌, ◌≡◌, ◌++◌, ◌∷◌, List, [], length, ap, ◌∙◌, arith, ℕ}
 use Rattle.std.proofs.lemmas.List.{append_assoc, length-append, length-map, map-append}
 use Rattle.std.specs.Prelude.{Bool, true, false, map}
 use Rattle.asked_nets.specs.Behind.{events_by}

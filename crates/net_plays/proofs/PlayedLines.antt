@@ -1,5 +1,5 @@
 -- What holds behind each event of a play, and is left by what is printed, armed and marked beside events, holds behind each line.
-use Rattle.std.proofs.Common.{ℕ, zero, suc, ◌+◌, ◌-◌, ◌≡◌, ◌++◌, List, [], ◌∷◌, length, subst, sym}
+use Rattle.std.proofs.Common.{ℕ, zero, suc, List, [], ◌∷◌, length, subst, sym}
 use Rattle.std.specs.Prelude.{Bool, true, false, Option, Some, None, option_map}
 use Rattle.armed_calls.specs.Faults.{raw_at}
 use Rattle.armed_calls.specs.declared.fault.Armed.{Armed}
@@ -8,7 +8,6 @@ use Rattle.at_base.specs.declared.event.Local.TheVariants as locals
 use Rattle.at_model.specs.Views.{up, deliver_to, tick_at, request, begin_at, interpose_at, work_at, commit_at}
 use Rattle.at_model.specs.World.{Crash, WorldEvent, node_of, nth}
 use Rattle.model_laws.specs.Settlement.{settle}
-use Rattle.raw_requests.specs.Draws.{Draws}
 use Rattle.raw_requests.specs.declared.Drawn.{Drawn}
 use Rattle.raw_requests.specs.declared.Drawn.TheVariants as drawns
 use Rattle.replay_cmd.specs.Deliveries.{lowest}
@@ -17,8 +16,8 @@ use Rattle.replay_cmd.specs.ReportOf.{armed_at, receiver_in}
 use Rattle.schedules.specs.Values.{bytes_in}
 use Rattle.schedules.specs.declared.line.Line.{Line}
 use Rattle.schedules.specs.declared.line.Line.TheVariants as lines
-use Rattle.net_plays.specs.PlayedLines.{Brings, BringsDrawn, Comes, DeliveredTo, Delivers, DeliversWhere, Flushes, GoesTo, Takes, TakesAll, marked, printed, with_armed}
-use Rattle.net_plays.specs.Plays.{AllHappen, Happens, IsBegun, IsOpening, Play, Rests, ups_from}
+use Rattle.net_plays.specs.PlayedLines.{Brings, BringsDrawn, Comes, DeliveredTo, DeliversWhere, Flushes, GoesTo, Takes, TakesAll, marked, printed, with_armed}
+use Rattle.net_plays.specs.Plays.{AllHappen, Happens, IsBegun, Play, Rests, ups_from}
 
 -- What each of these leaves.
 pub record Keeps (P : Play → Type 0) : Type 1 where

@@ -1,18 +1,15 @@
 -- The world of a play is that of the run of its events; what holds of every run holds of it; and with the events that settle it, it comes to rest.
-use Rattle.std.proofs.Common.{ℕ, zero, suc, ◌+◌, ◌≡◌, ◌≤◌, ◌<◌, refl, List, [], ◌∷◌, ◌++◌, length, drop, sym, ap, subst, ◌∙◌, arith}
+use Rattle.std.proofs.Common.{ℕ, zero, suc, ◌+◌, ◌≡◌, refl, List, [], ◌∷◌, ◌++◌, length, drop, sym, ap, subst, ◌∙◌}
 use Rattle.std.proofs.lemmas.List.{append_assoc}
 use Rattle.std.specs.Prelude.{Option, Some, None, Bool, true, false}
 use Rattle.std.specs.List.{AllByRecursion}
 use Rattle.armed_calls.specs.declared.fault.Armed.{Armed}
-use Rattle.asked_nets.specs.ArmedCalls.{call_of}
 use Rattle.asked_nets.specs.Behind.{events_by, world_behind}
-use Rattle.at_base.specs.declared.limits.TheConstants.{RESEND_AFTER}
 use Rattle.at_model.specs.Book.{Book}
-use Rattle.at_model.specs.Views.{deliver_to, tick_at, up}
+use Rattle.at_model.specs.Views.{deliver_to}
 use Rattle.at_model.specs.World.{Crash, HaveOwnAddresses, Hosts, Node, World, WorldEvent, example_hosts, node_of, opening, run_of, run_on, world_step}
 use Rattle.model_laws.specs.Agreement.{Agrees, HasOneSuperior, IsAgreed, IsBehindAnswers, IsToldTruly}
 use Rattle.model_laws.specs.MadeIds.{MakesNoIdTwice}
-use Rattle.model_laws.specs.ReachedWorlds.{ExamplesAreApart}
 use Rattle.model_laws.specs.Registrations.{EnlistsUnderOne}
 use Rattle.model_laws.specs.Settlement.{MayStart, Settles, Settling, all_also, all_up, also, deliver_next, deliveries_from, first_received, is_settled, most_deliveries, settle, settle_from, settle_round, settle_rounds, settled, ticks, up_if, ups, waiting}
 use Rattle.replay_cmd.specs.Laws.{IsSafe}

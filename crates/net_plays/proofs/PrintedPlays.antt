@@ -1,13 +1,13 @@
 -- What is printed of a play stands in its world, line by line.
-use Rattle.std.proofs.Common.{ℕ, zero, suc, ◌+◌, ◌-◌, ◌≡◌, refl, List, [], ◌∷◌, ◌++◌, length, drop, sym, ap, subst, ◌∙◌, arith}
-use Rattle.std.specs.Prelude.{Option, Some, None, Bool, true, false, if◌then◌else◌, nat_eq, option_map}
+use Rattle.std.proofs.Common.{ℕ, suc, ◌+◌, ◌-◌, ◌≡◌, refl, List, [], ◌∷◌, ◌++◌, length, drop, sym, ap, subst, ◌∙◌, arith}
+use Rattle.std.specs.Prelude.{Option, Some, Bool, true, false, if◌then◌else◌, nat_eq, option_map}
 use Rattle.std.specs.List.{AllByRecursion}
 use Rattle.std.proofs.lemmas.Bool.{eqb-true}
 use Rattle.std.proofs.lemmas.List.{append_assoc, length-append}
 use Rattle.armed_calls.specs.declared.fault.Armed.{Armed}
 use Rattle.armed_calls.specs.declared.fault.Fault.{Fault}
 use Rattle.asked_nets.specs.Behind.{world_behind}
-use Rattle.at_model.specs.World.{Crash, Hosts, Posted, World, WorldEvent, example_hosts, node_of, nth, opening, world_step, HaveOwnAddresses}
+use Rattle.at_model.specs.World.{Crash, Hosts, Posted, World, WorldEvent, example_hosts, node_of, nth, world_step, HaveOwnAddresses}
 use Rattle.model_laws.specs.ReachedWorlds.{Reached, fell, opened, rose, stepped as steps_to, waited}
 use Rattle.model_laws.proofs.ReachedWorlds.{Closed, all_reached}
 use Rattle.printed_agreement.specs.PlainPosts.{IsPlain}

@@ -1,18 +1,18 @@
 -- Which event it was that was asked for: as it was asked for, where no call is armed; and of one behind whose steps its node went down, a turn without
 -- a stop.
-use Rattle.std.proofs.Common.{ℕ, List, [], ◌∷◌, ◌++◌, ◌≡◌, ◌+◌, ◌⊎◌, inl, inr, Bool, true, false, refl, ap, subst, sym, suc, zero, drop, map, arith, ◌∙◌}
+use Rattle.std.proofs.Common.{ℕ, List, [], ◌∷◌, ◌++◌, ◌≡◌, inl, inr, Bool, true, false, refl, ap, subst, sym, suc, zero, drop, map, arith, ◌∙◌}
 use Rattle.std.proofs.lemmas.Bool.{ne_eqb}
-use Rattle.std.specs.Prelude.{Option, Some, None, if◌then◌else◌, nat_eq, not}
+use Rattle.std.specs.Prelude.{Option, None, if◌then◌else◌, nat_eq, not}
 use Rattle.at_model.specs.World.{World, WorldEvent, Turn, Ask, Crash, Up}
 use Rattle.asked_nets.specs.Behind.{goes_anew}
 use Rattle.asked_nets.specs.Happened.{Happened}
-use Rattle.asked_nets.specs.ReadSteps.{IsTold, MovesRead, NetStepRead}
+use Rattle.asked_nets.specs.ReadSteps.{IsTold, NetStepRead}
 use Rattle.call_readings.specs.AskedEvents.{IsOf}
 use Rattle.call_readings.specs.Reads.{ReadsAs, named, read_fates}
 use Rattle.call_readings.specs.ReadsStart.{StartsAs}
 use Rattle.call_readings.specs.declared.became.Became.{Became}
 use Rattle.call_readings.specs.declared.became.Became.TheVariants.{Stays, Falls, Halts, FallsAnew, HaltsAnew}
-use Rattle.mirrored_nets.specs.Fates.{AllDone, all_done, behind_disk, disk_part, fates_in, is_disk, is_done, record_fate, sent_of, sent_part}
+use Rattle.mirrored_nets.specs.Fates.{AllDone, all_done, behind_disk, disk_part, is_disk, is_done, record_fate, sent_of, sent_part}
 use Rattle.mirrored_nets.specs.Seen.{Seen}
 use Rattle.mirrored_nets.specs.declared.judged.Armed.{Armed}
 use Rattle.mirrored_nets.specs.declared.judged.Armed.TheVariants as arms

@@ -1,14 +1,11 @@
 -- Reports of plays.
 use Rattle.std.proofs.Common.{ℕ, ◌≡◌, ◌<◌, ◌^◌, ◌++◌, List, length, map, refl, subst, sym, arith}
 use Rattle.std.specs.Prelude.{Bool}
-use Rattle.std.specs.List.{AllByRecursion}
 use Rattle.std.proofs.lemmas.List.{length-map}
 use Rattle.asked_nets.specs.Happened.{MirrorsAt}
-use Rattle.at_model.specs.World.{World, example_hosts}
 use Rattle.memory_net.specs.Closed.{StaysClosed}
 use Rattle.memory_net.specs.Mails.{mail_of}
 use Rattle.memory_net.specs.declared.letter.Letter.{Letter}
-use Rattle.mirrored_nets.specs.Seen.{Seen}
 use Rattle.model_laws.specs.Agreement.{Agrees}
 use Rattle.model_laws.specs.MadeIds.{MakesNoIdTwice}
 use Rattle.model_laws.specs.ReachedWorlds.{ExamplesAreApart}

@@ -1,7 +1,6 @@
 -- Where a play comes to no end.
-use Rattle.std.proofs.Common.{ℕ, zero, suc, ◌+◌, ◌-◌, ◌≡◌, ◌<◌, ◌++◌, ◌∷◌, ◌⊎◌, inl, inr, List, [], Bool, true, false, refl, drop, drop-cons, get_or, length, map, ap, subst, sym, arith, ◌∙◌}
+use Rattle.std.proofs.Common.{ℕ, suc, ◌+◌, ◌-◌, ◌≡◌, ◌<◌, ◌++◌, ◌∷◌, inl, inr, List, [], Bool, true, refl, drop, drop-cons, get_or, length, map, ap, subst, sym, arith, ◌∙◌}
 use Rattle.std.specs.Prelude.{Option, Some, None, option_map}
-use Rattle.std.proofs.lemmas.List.{append_assoc, map-append}
 use Rattle.armed_calls.specs.Faults.{raw_at}
 use Rattle.armed_calls.specs.declared.fault.Armed.{Armed as Known}
 use Rattle.asked_nets.specs.ArmedCalls.{call_of}
@@ -19,9 +18,9 @@ use Rattle.replay_cmd.specs.ReportOf.{armed_at, nodes_of, receiver_in}
 use Rattle.schedules.specs.declared.line.Line.{Line}
 use Rattle.world_laws.specs.Events.{event_of}
 use Rattle.world_laws.specs.declared.event.WorldEvent.{WorldEvent as Given}
-use Rattle.net_plays.specs.PlayedLines.{Delivers, DeliversWhere, Flushes, Takes, TakesAll, marked}
-use Rattle.net_plays.specs.Plays.{AllHappen, Happens, IsBegun, IsOpening, Play, ups_from}
-use Rattle.net_plays.specs.Stops.{HasNoReport, Stops, StopsAmong, StopsBegin, StopsBehind, StopsComing, StopsDelivery, StopsFlush, StopsIn, StopsInLast, StopsInLines, StopsInjection, StopsRest, Why}
+use Rattle.net_plays.specs.PlayedLines.{Delivers, DeliversWhere, Takes, TakesAll, marked}
+use Rattle.net_plays.specs.Plays.{Happens, IsBegun, IsOpening, Play, ups_from}
+use Rattle.net_plays.specs.Stops.{HasNoReport, Stops, StopsAmong, StopsBegin, StopsComing, StopsDelivery, StopsFlush, StopsIn, StopsInLines, StopsInjection, StopsRest, Why}
 use Rattle.net_plays.specs.Stops.Why.{HasMany, IsFull}
 use Rattle.net_plays.proofs.PlayedEvents.{ups_more}
 

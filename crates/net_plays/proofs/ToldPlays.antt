@@ -1,5 +1,5 @@
 -- What is printed of a play tells what happened in its world.
-use Rattle.std.proofs.Common.{ℕ, ◌≡◌, refl, List, [], ◌∷◌, ◌++◌, length, drop, sym, ap, subst, map, ◌∙◌}
+use Rattle.std.proofs.Common.{ℕ, ◌≡◌, List, [], ◌∷◌, ◌++◌, length, drop, sym, subst, map}
 use Rattle.std.specs.Prelude.{Option, Bool, true, false, option_map}
 use Rattle.std.specs.List.{AllByRecursion}
 use Rattle.armed_calls.specs.declared.fault.Armed.{Armed}
@@ -11,7 +11,7 @@ use Rattle.asked_nets.specs.ArmedCalls.{call_of}
 use Rattle.asked_nets.specs.Behind.{world_behind}
 use Rattle.asked_nets.specs.Happened.{Happened}
 use Rattle.at_base.specs.declared.outs.Effect.{Effect}
-use Rattle.at_model.specs.World.{Posted, World, WorldEvent, example_hosts, happened_at, node_of, opening}
+use Rattle.at_model.specs.World.{Posted, World, WorldEvent, happened_at, node_of}
 use Rattle.replay_cmd.specs.ReportOf.{ended}
 use Rattle.reported_effects.specs.EffectLines.{IsOnOneLine, Tells}
 use Rattle.reported_effects.proofs.PrintedLines.{effects_in, end_says, event_says, forged_says, no_message_says}

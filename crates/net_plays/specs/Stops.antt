@@ -1,5 +1,5 @@
 -- Where a play comes to no end: what is asked for next isn't done, since its node's journal is full; or it was done, and its world takes no more events.
-use Rattle.std.specs.Prelude.{ℕ, List, [], ◌∷◌, ◌++◌, ◌+◌, ◌<◌, ◌≡◌, ◌⊎◌, Bool, Option, Some, None, false, true, length, option_map}
+use Rattle.std.specs.Prelude.{ℕ, List, [], ◌∷◌, ◌++◌, ◌+◌, ◌<◌, ◌≡◌, ◌⊎◌, Bool, Option, Some, None, true, length, option_map}
 use Rattle.armed_calls.specs.Faults.{raw_at}
 use Rattle.armed_calls.specs.declared.fault.Armed.{Armed}
 use Rattle.asked_nets.specs.ArmedCalls.{call_of}
@@ -18,7 +18,7 @@ use Rattle.replay_cmd.specs.ReportOf.{armed_at, nodes_of, receiver_in}
 use Rattle.schedules.specs.Values.{bytes_in}
 use Rattle.schedules.specs.declared.line.Line.{Line}
 use Rattle.schedules.specs.declared.line.Line.TheVariants as lines
-use Rattle.net_plays.specs.PlayedLines.{Flushes, Takes, TakesAll, marked}
+use Rattle.net_plays.specs.PlayedLines.{Flushes, TakesAll, marked}
 use Rattle.net_plays.specs.Plays.{AllHappen, IsBegun, IsOpening, Play, ups_from}
 
 -- the journal of a node is full, or there are too many events
