@@ -75,6 +75,7 @@ impl Model for Net {
 }
 
 /// What was asked for, as it happened.
+#[derive(Drop)]
 pub struct Taken {
     pub net: Net,
     /// What was asked for, with the fates that its calls had and the stop.
@@ -83,17 +84,6 @@ pub struct Taken {
     pub down: bool,
     /// How many calls its machine made; 0 where nothing was done.
     pub calls: usize,
-}
-
-impl Drop for Taken {
-    fn drop(self) {
-        let Taken {
-            net: _net,
-            event: _event,
-            down: _down,
-            calls: _calls,
-        } = self;
-    }
 }
 
 /// What a connection brings to a node: its bytes, and how many calls come before the first step.

@@ -1,0 +1,14 @@
+pub mod Events
+pub mod EventTexts
+pub mod WholeTurns
+pub mod ReadEvents
+pub mod PlayedLines
+pub mod FallenWorlds
+pub mod ToldPlays
+pub mod PrintedPlays
+pub mod TellingReports
+pub mod AgreeingReports
+pub mod PlayedRuns
+pub mod ReportedPlays
+pub mod PlayedEvents
+pub mod StoppedPlays

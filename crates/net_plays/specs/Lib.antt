@@ -1,0 +1,6 @@
+pub mod EventTexts
+pub mod MessageBytes
+pub mod Plays
+pub mod PlayedLines
+pub mod NetReports
+pub mod Stops
