@@ -44,7 +44,9 @@ fn media_type(page: Page) -> &'static str {
 fn answer(alloc: Global, page: Page, text: &[u8]) -> Result<Vec<u8>, AllocError> {
     let kind = media_type(page);
     let length = text.len();
-    let head = format!(in alloc; "HTTP/1.1 200 OK\r\nContent-Type: {kind}\r\nContent-Length: {length}\r\nCache-Control: no-store\r\nConnection: close\r\n\r\n")?;
+    let head = format!(in alloc;
+        "HTTP/1.1 200 OK\r\nContent-Type: {kind}\r\nContent-Length: {length}\r\nCache-Control: no-store\r\nConnection: close\r\n\r\n"
+    )?;
     let mut bytes = Vec::from_slice(alloc, head.as_bytes())?;
     bytes.extend_from_slice(text)?;
     Ok(bytes)

@@ -238,7 +238,9 @@ fn silent<'a>(alloc: Global, name: &'a str, about: &'a str) -> Result<Command<'a
 fn serving<'a>(alloc: Global, name: &'a str, about: &'a str) -> Result<Command<'a>, AllocError>
     ensures { IfOk result (IsCommand (serving name.entry.now)) }
 {
-    silent(alloc, name, about)?.arg(log(alloc))?.arg(status(alloc))
+    silent(alloc, name, about)?
+        .arg(log(alloc))?
+        .arg(status(alloc))
 }
 
 /// `coordinator ..`.

@@ -125,7 +125,8 @@ impl<H: Site + Departing + Drop, K: Sink + Drop, C: Clock + Drop> Site for Logge
     }
 }
 
-impl<H: Showing + Departing + Drop, K: Sink + Drop, C: Clock + Drop> Showing for LoggedSite<H, K, C> {
+impl<H: Showing + Departing + Drop, K: Sink + Drop, C: Clock + Drop> Showing
+    for LoggedSite<H, K, C> {
     fn show<P: Pages>(&mut self, pages: &P) {
         self.notes.losses(self.site.lost());
         self.site.show(pages);

@@ -127,11 +127,7 @@ fn participants(alloc: Global, seats: &[Enlistment]) -> Result<Vec<Value>, Alloc
 }
 
 #[tactic(auto, unfolding(crate::specs::Json::transaction_data))]
-fn transaction(
-    alloc: Global,
-    now: u64,
-    transaction: &Transaction,
-) -> Result<Value, AllocError>
+fn transaction(alloc: Global, now: u64, transaction: &Transaction) -> Result<Value, AllocError>
     ensures { IfOk result (λ v. view v ≡ transaction_data now transaction.now) }
 {
     let id = format!(in alloc; "{}", transaction.id)?;
@@ -213,11 +209,7 @@ fn leaves(alloc: Global, now: u64, items: Items<'_, Leaf>) -> Result<Vec<Value>,
 }
 
 #[tactic(auto, using(crate::proofs::Values::grown))]
-fn activities(
-    alloc: Global,
-    now: u64,
-    items: Items<'_, Activity>,
-) -> Result<Vec<Value>, AllocError>
+fn activities(alloc: Global, now: u64, items: Items<'_, Activity>) -> Result<Vec<Value>, AllocError>
     ensures { IfOk result (λ values. map view values.items ≡ map (activity_data now) items.entry) }
 {
     let mut values = Vec::new(alloc);

@@ -73,12 +73,7 @@ fn push(out: &mut Vec<u8>, text: &str) -> Result<(), AllocError>
     out.extend_from_slice(text.as_bytes())
 }
 
-fn push_three(
-    out: &mut Vec<u8>,
-    first: &str,
-    second: &str,
-    third: &str,
-) -> Result<(), AllocError>
+fn push_three(out: &mut Vec<u8>, first: &str, second: &str, third: &str) -> Result<(), AllocError>
     ensures { OnOk result (out.new.items ≡ out.old.items ++ (said first.now ++ (said second.now ++ said third.now))) }
 {
     push(out, first)?;
@@ -138,12 +133,7 @@ fn push_seconds(alloc: Global, out: &mut Vec<u8>, millis: u64) -> Result<(), All
 
 /// How long it is until then.
 #[tactic(auto, unfolding(crate::specs::Overview::left))]
-fn push_left(
-    alloc: Global,
-    out: &mut Vec<u8>,
-    now: u64,
-    at: Option<u128>,
-) -> Result<(), AllocError>
+fn push_left(alloc: Global, out: &mut Vec<u8>, now: u64, at: Option<u128>) -> Result<(), AllocError>
     ensures { OnOk result (out.new.items ≡ out.old.items ++ left now at) }
 {
     match at {
@@ -157,12 +147,7 @@ fn push_left(
 
 /// How long ago it was.
 #[tactic(auto, unfolding(crate::specs::Overview::ago))]
-fn push_ago(
-    alloc: Global,
-    out: &mut Vec<u8>,
-    now: u64,
-    at: Option<u64>,
-) -> Result<(), AllocError>
+fn push_ago(alloc: Global, out: &mut Vec<u8>, now: u64, at: Option<u64>) -> Result<(), AllocError>
     ensures { OnOk result (out.new.items ≡ out.old.items ++ ago now at) }
 {
     match at {
@@ -329,11 +314,7 @@ fn push_superior(out: &mut Vec<u8>, superior: &Option<Superior>) -> Result<(), A
 }
 
 /// Who takes part in a transaction.
-fn push_parts(
-    alloc: Global,
-    out: &mut Vec<u8>,
-    transaction: &Transaction,
-) -> Result<(), AllocError>
+fn push_parts(alloc: Global, out: &mut Vec<u8>, transaction: &Transaction) -> Result<(), AllocError>
     ensures { OnOk result (out.new.items ≡ out.old.items ++ (superior_items transaction.now.superior ++ (initiator_item transaction.now.completion ++ seat_items transaction.now.seats))) }
 {
     push_superior(out, &transaction.superior)?;
@@ -396,11 +377,7 @@ fn push_count(alloc: Global, out: &mut Vec<u8>, count: u32) -> Result<(), AllocE
 }
 
 /// How far an activity has come.
-fn push_progress(
-    alloc: Global,
-    out: &mut Vec<u8>,
-    activity: &Activity,
-) -> Result<(), AllocError>
+fn push_progress(alloc: Global, out: &mut Vec<u8>, activity: &Activity) -> Result<(), AllocError>
     ensures { OnOk result (out.new.items ≡ out.old.items ++ (cell (said (id_text activity.now.root)) ++ (cell (said (progress_word activity.now.progress)) ++ cell (decimal activity.now.works)))) }
 {
     push_id(alloc, out, activity.root)?;
@@ -496,11 +473,7 @@ fn push_fact(alloc: Global, out: &mut Vec<u8>, text: &str, number: u64) -> Resul
 }
 
 #[tactic(auto, unfolding(crate::specs::Overview::connection_facts))]
-fn push_connections(
-    alloc: Global,
-    out: &mut Vec<u8>,
-    counts: &Counts,
-) -> Result<(), AllocError>
+fn push_connections(alloc: Global, out: &mut Vec<u8>, counts: &Counts) -> Result<(), AllocError>
     ensures { OnOk result (out.new.items ≡ out.old.items ++ connection_facts counts.now) }
 {
     push_fact(alloc, out, ". Turns: ", counts.taken)?;
@@ -564,7 +537,12 @@ fn push_age(
 {
     push(out, "<p>Up for ")?;
     push_seconds(alloc, out, counts.up)?;
-    push_fact(alloc, out, ", in incarnation ", u64::from(node.incarnation()))
+    push_fact(
+        alloc,
+        out,
+        ", in incarnation ",
+        u64::from(node.incarnation()),
+    )
 }
 
 /// What was counted, and the journal.
@@ -627,12 +605,7 @@ fn push_activities_part(
 
 /// What a node holds.
 #[tactic(auto, unfolding(crate::specs::Overview::items_part))]
-fn push_items(
-    alloc: Global,
-    out: &mut Vec<u8>,
-    now: u64,
-    node: &Node,
-) -> Result<(), AllocError>
+fn push_items(alloc: Global, out: &mut Vec<u8>, now: u64, node: &Node) -> Result<(), AllocError>
     ensures { OnOk result (out.new.items ≡ out.old.items ++ items_part now (seen node.now).book) }
 {
     push_transactions_part(alloc, out, now, node)?;

@@ -23,12 +23,7 @@ pub struct View<'a> {
 }
 
 /// The page for a person.
-fn overview(
-    alloc: Global,
-    role: Role,
-    node: &Node,
-    counts: &Counts,
-) -> Result<Vec<u8>, AllocError>
+fn overview(alloc: Global, role: Role, node: &Node, counts: &Counts) -> Result<Vec<u8>, AllocError>
     ensures { IfOk result (λ text. text.items ≡ overview role (seen node.now) counts.now) }
 {
     let mut text = Vec::new(alloc);
