@@ -2,6 +2,9 @@
 
 use crate::posts::{ANSWER, POST, address, start, world};
 use atx_sites::node_site::NodeSite;
+use shown_pages::page::{Counts, Page};
+use shown_pages::pages::Pages;
+use shown_pages::showing::Showing;
 use site_model::site::{Site, Taken};
 use site_model::source::Failed;
 use std::alloc::{AllocError, Global};
@@ -560,5 +563,61 @@ fn turns_away(alloc: Global) -> Result<bool, AllocError> {
 fn a_page_has_no_turn(rt: HostRuntime) -> Result<(), Fail> {
     let right = turns_away(rt.alloc())?;
     assert!(rt; right, "a page");
+    Ok(())
+}
+
+/// Pages of the same text each.
+struct Said;
+
+impl Pages for Said {
+    ghost use Rattle.std.specs.Prelude.{codes};
+
+    ghost says = { λ said page counts. codes "up" };
+
+    fn text(&self, alloc: Global, page: Page, counts: &Counts) -> Result<Vec<u8>, AllocError> {
+        let _ = (page, counts);
+        Vec::from_slice(alloc, b"up")
+    }
+}
+
+const GET: &[u8] = b"GET /status HTTP/1.1\r\nHost: 127.0.0.1:9\r\n\r\n";
+
+const SHOWN: &[u8] =
+    b"HTTP/1.1 200 OK\r\nContent-Type: application/json\r\nContent-Length: 2\r\nCache-Control: no-store\r\nConnection: close\r\n\r\nup";
+
+/// One asks for a page before another's request comes, which is served; where no pages are shown, the first has its turn.
+fn shows(alloc: Global, pages: bool) -> Result<bool, AllocError> {
+    let mut world = world(alloc);
+    world.peer(sender(alloc, 0, 0, GET)?)?;
+    world.peer(sender(alloc, 10, 10, WHOLE)?)?;
+    let mut system = MemorySystem::new(world);
+    let mut site = NodeSite::new(alloc, &mut system);
+    if pages {
+        site.show_pages();
+    }
+    let attached = site.attach("d/j", "127.0.0.1:9").is_ok();
+    site.show(&Said);
+    let request = if pages { WHOLE } else { GET };
+    let served = hears(&mut site, request) && site.send(ANSWER).is_ok();
+    site.close();
+    site.leave();
+    drop(site);
+    let [asks, other] = system.world().peers() else {
+        return Ok(false);
+    };
+    let (first, second) = if pages {
+        (SHOWN, ANSWER)
+    } else {
+        (ANSWER, b"".as_slice())
+    };
+    Ok(attached && served && asks.took() == first && other.took() == second)
+}
+
+#[test]
+fn pages_are_shown_beside_the_turns(rt: HostRuntime) -> Result<(), Fail> {
+    let with = shows(rt.alloc(), true)?;
+    assert!(rt; with, "pages");
+    let without = shows(rt.alloc(), false)?;
+    assert!(rt; without, "no pages");
     Ok(())
 }
