@@ -126,7 +126,7 @@ unarmed_start made result (FallsAnew kept choice) landed stop h = absurd h
 unarmed_start made result HaltsAnew landed stop h = absurd h
 
 told_none : (s : MemSite) (struck : Armed) → IsTold arms.No s struck → struck ≡ arms.No
-told_none s struck (inl is) = is
+told_none s struck (inl (is, begun)) = is
 told_none s struck (inr (is, none)) = is
 
 -- an event without fates and without a stop
