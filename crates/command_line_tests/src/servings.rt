@@ -3,6 +3,7 @@
 use crate::top_call::{are_said, words_of};
 use command_line::run::run;
 use journal_cmd::memory_files::MemoryFiles;
+use shown_pages::showing::Showing;
 use site_memory::machine::MemSite;
 use site_model::memory::{MemSink, MemSource};
 use site_model::sink::Sink;
@@ -12,7 +13,7 @@ use std::alloc::{AllocError, Global};
 use std::test::Fail;
 
 /// The status of a command over this input and machine, and whether it prints this.
-fn serves<H: Site>(
+fn serves<H: Showing>(
     alloc: Global,
     line: &str,
     input: &str,

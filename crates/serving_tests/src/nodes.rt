@@ -5,6 +5,7 @@ use schedules::initiator_reader::read_initiator_lines;
 use serving::serve::serve;
 use serving::service::Service;
 use serving::service_end::Ended;
+use shown_pages::showing::Showing;
 use site_memory::machine::MemSite;
 use site_model::memory::MemSink;
 use site_model::site::Site;
@@ -20,7 +21,7 @@ const CREATE: &[u8] =
     b"POST /activation HTTP/1.0\r\nContent-Length: 584\r\n\r\n<s:Envelope xmlns:s='http://schemas.xmlsoap.org/soap/envelope/' xmlns:a='http://www.w3.org/2005/08/addressing'><s:Header><a:Action>http://docs.oasis-open.org/ws-tx/wscoor/2006/06/CreateCoordinationContext</a:Action><a:MessageID>urn:m</a:MessageID><a:ReplyTo><a:Address>http://n1.example/i/1-1</a:Address></a:ReplyTo></s:Header><s:Body><c:CreateCoordinationContext xmlns:c='http://docs.oasis-open.org/ws-tx/wscoor/2006/06'><c:Expires>0</c:Expires><c:CoordinationType>http://docs.oasis-open.org/ws-tx/wsat/2006/06</c:CoordinationType></c:CreateCoordinationContext></s:Body></s:Envelope>";
 
 /// What a node prints whose journal may have so many bytes, and how it ended.
-fn served_within<H: Site>(
+fn served_within<H: Showing>(
     alloc: Global,
     role: Role,
     limit: u32,
@@ -47,7 +48,7 @@ fn served_within<H: Site>(
 }
 
 /// What a node prints, and how it ended.
-fn served<H: Site>(
+fn served<H: Showing>(
     alloc: Global,
     role: Role,
     input: &[u8],
@@ -58,7 +59,7 @@ fn served<H: Site>(
 }
 
 /// Whether a node over this machine ends so and prints this.
-fn serves<H: Site>(
+fn serves<H: Showing>(
     alloc: Global,
     role: Role,
     input: &str,
