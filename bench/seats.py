@@ -4,11 +4,12 @@
 Usage: bench/seats.py [ROUNDS]
        bench/seats.py --count
 
-The program `schedule_loop` plays schedules over nodes that serve. First one transaction with 1, 8, 64 and 512 durable
+`atx replay` plays schedules over nodes that serve, and prints what they did. First one transaction with 1, 8, 64 and 512 durable
 participants, from its begin to the last Committed: `messages` is how many were delivered, `growth` how its time grew over
 that of the row before it, beside how its seats grew. Then a tick at a coordinator with 1, 128 and 1,024 live transactions,
 none of which is due, and all of which are, since they expire: the time of the tick alone, which is what a run with it takes
-more than one without it. Each time is the least of ROUNDS runs (default 5), net of that of a process's start.
+more than one without it. Each time is the least of ROUNDS runs (default 5), net of that of a process's start. The program is the
+built `atx`, or another one in ATX.
 
 With --count it counts the instructions of one run of each, by valgrind, in place of times: what else the machine does
 changes nothing of them.
@@ -20,7 +21,7 @@ import sys
 import time
 
 TOP = os.path.dirname(os.path.dirname(os.path.abspath(__file__)))
-PROGRAM = os.environ.get("SCHEDULE_LOOP", os.path.join(TOP, "crates", "schedule_loop", "out", "schedule_loop"))
+ATX = os.environ.get("ATX", os.path.join(TOP, "crates", "atx", "out", "atx"))
 SEATS = (1, 8, 64, 512)
 LIVE = (1, 128, 1024)
 
@@ -41,7 +42,7 @@ def held(live, ms, ticked):
 def run(lines):
     text = "\n".join(lines) + "\n"
     start = time.perf_counter()
-    done = subprocess.run([PROGRAM], input=text.encode(), capture_output=True, check=True)
+    done = subprocess.run([ATX, "replay"], input=text.encode(), capture_output=True, check=True)
     return time.perf_counter() - start, done.stdout
 
 
@@ -51,7 +52,7 @@ def least(rounds, lines):
 
 def instructions(lines):
     """How many instructions a run takes, in millions."""
-    words = ["valgrind", "--tool=callgrind", f"--callgrind-out-file={os.devnull}", PROGRAM]
+    words = ["valgrind", "--tool=callgrind", f"--callgrind-out-file={os.devnull}", ATX, "replay"]
     done = subprocess.run(words, input=("\n".join(lines) + "\n").encode(), capture_output=True, check=True)
     return int(re.search(rb"Collected : (\d+)", done.stderr).group(1)) / 1e6
 
@@ -76,8 +77,8 @@ def main():
     if sys.argv[1:] == ["--count"]:
         return count()
     rounds = int(sys.argv[1]) if len(sys.argv) > 1 else 5
-    if not os.access(PROGRAM, os.X_OK):
-        sys.exit("bench: build the program first: rt run in crates/schedule_loop")
+    if not os.access(ATX, os.X_OK):
+        sys.exit("bench: build the program first: ./atx --version")
     started = least(rounds, ["nodes 1"])
     print(f"{'seats':<8}{'messages':>10}{'ms':>10}{'us a seat':>12}{'growth':>10}{'of seats':>10}")
     before = None

@@ -35,9 +35,9 @@ use Rattle.mirrored_nets.specs.Goings.{IsBrought, IsSet, ms_of}
 use Rattle.mirrored_nets.specs.Kept.{kept_at, writes_at}
 use Rattle.mirrored_nets.specs.Mirrors.{Mirrors}
 use Rattle.mirrored_nets.specs.Took.{EndsSo, FellBack, IsTriedLine, IsWhole, LeftSo, kept_of}
-use Rattle.mirrored_nets.specs.TookAnew.{FailsAnew, IsAskedWhole, of_six_in}
-use Rattle.mirrored_nets.specs.Unarmed.{IsTold}
-use Rattle.mirrored_nets.specs.declared.judged.Armed.{Armed}
+use Rattle.mirrored_nets.specs.AnewCalls.{FailsAnew, IsAskedWhole, of_six_in}
+use Rattle.mirrored_nets.specs.ToldMachines.{IsTold}
+use Rattle.mirrored_nets.specs.declared.armed.Armed.{Armed}
 use Rattle.mirrored_nets.proofs.CutCalls.{take_behind}
 use Rattle.mirrored_nets.proofs.FallenHosts.{InWorld, IsBefore, NetLaws, comes_back, in_world, up_there}
 use Rattle.mirrored_nets.proofs.FallenTurns.{since_then}

@@ -12,9 +12,9 @@ use Rattle.site_memory.specs.declared.machine.MemSite.{MemSite}
 use Rattle.mirrored_nets.specs.Goings.{IsBrought, IsNothing, IsSet, WentDown, ms_of}
 use Rattle.mirrored_nets.specs.NetSteps.{IsGiven}
 use Rattle.mirrored_nets.specs.Seen.{Seen}
-use Rattle.mirrored_nets.specs.StruckTurns.{IsToldOf}
+use Rattle.mirrored_nets.specs.ToldMachines.{IsToldOf}
 use Rattle.mirrored_nets.specs.Took.{HasRoom}
-use Rattle.mirrored_nets.specs.declared.judged.Armed.{Armed}
+use Rattle.mirrored_nets.specs.declared.armed.Armed.{Armed}
 use Rattle.mirrored_nets.proofs.NetEvents.{numbered}
 use Rattle.reading_laws.specs.RequestsAreRead.{IsRequestHere}
 use Rattle.reading_laws.specs.TurnsAreRead.{IsTurnHere}

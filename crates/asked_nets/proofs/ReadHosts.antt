@@ -20,7 +20,7 @@ use Rattle.site_model.specs.Told.{Made, sent_by}
 use Rattle.mirrored_nets.specs.Took.{Adds, AnswersSo, EndsSo, HasRoom, IsTriedLine, IsWhole, LeftSo, kept_of}
 use Rattle.mirrored_nets.specs.declared.came.Came.{Came}
 use Rattle.mirrored_nets.specs.declared.came.Came.TheVariants as cames
-use Rattle.mirrored_nets.specs.declared.judged.Armed.{Armed}
+use Rattle.mirrored_nets.specs.declared.armed.Armed.{Armed}
 use Rattle.call_readings.specs.Reads.{IsOfSteps, Reads, ReadsRequest, ReadsTurn, came_to, is_halted}
 use Rattle.call_readings.specs.declared.became.Became.{Became}
 use Rattle.call_readings.specs.declared.became.Became.TheVariants as becomes

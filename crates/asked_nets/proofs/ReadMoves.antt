@@ -23,13 +23,12 @@ use Rattle.mirrored_nets.specs.Fates.{AllDone, anew_of, disk_part}
 use Rattle.mirrored_nets.specs.Goings.{IsSet, NetsMirror, ms_of}
 use Rattle.mirrored_nets.specs.Mirrors.{Mirrors}
 use Rattle.mirrored_nets.specs.Seen.{Seen}
-use Rattle.mirrored_nets.specs.StruckStarts.{IsBegun, IsStanding, may_fail}
-use Rattle.mirrored_nets.specs.StruckTurns.{IsToldOf}
+use Rattle.mirrored_nets.specs.LeftStarts.{IsBegun, IsStanding, may_fail}
+use Rattle.mirrored_nets.specs.ToldMachines.{IsTold, IsToldOf}
 use Rattle.mirrored_nets.specs.Took.{AnswersSo, ComesTo, EndsSo, FellBack, LeftSo, TookRequest, TookTurn, kept_of}
 use Rattle.mirrored_nets.specs.TookStart.{HasLast}
-use Rattle.mirrored_nets.specs.Unarmed.{IsTold}
-use Rattle.mirrored_nets.specs.declared.judged.Armed.{Armed}
-use Rattle.mirrored_nets.specs.declared.judged.Armed.TheVariants as arms
+use Rattle.mirrored_nets.specs.declared.armed.Armed.{Armed}
+use Rattle.mirrored_nets.specs.declared.armed.Armed.TheVariants as arms
 use Rattle.mirrored_nets.proofs.FallenHosts.{NetLaws}
 use Rattle.mirrored_nets.proofs.NetEvents.{numbered, of_parts, same_few, same_mirrors}
 use Rattle.mirrored_nets.proofs.StartFaults.{may_be_struck}

@@ -26,7 +26,7 @@ use Rattle.mirrored_nets.specs.Fates.{anew_of}
 use Rattle.mirrored_nets.specs.Mirrors.{Mirrors}
 use Rattle.mirrored_nets.specs.Took.{Adds, AnswersSo, HasRoom}
 use Rattle.mirrored_nets.specs.declared.came.Came.TheVariants as cames
-use Rattle.mirrored_nets.specs.declared.judged.Armed.{Armed}
+use Rattle.mirrored_nets.specs.declared.armed.Armed.{Armed}
 use Rattle.mirrored_nets.proofs.CalledFates.{local_called, planned_calls}
 use Rattle.mirrored_nets.proofs.CallsRead.{Read, anew_behind}
 use Rattle.mirrored_nets.proofs.FallenHosts.{InWorld, IsBefore, NetLaws, in_world, up_there}

@@ -17,7 +17,7 @@ use Rattle.site_memory.specs.declared.machine.MemSite.{MemSite}
 use Rattle.site_model.specs.Site.{Counts}
 use Rattle.mirrored_nets.specs.Mirrors.{MayServe}
 use Rattle.mirrored_nets.specs.Took.{AnswersSo, EndsSo}
-use Rattle.mirrored_nets.specs.Unarmed.{IsReady, IsTold}
+use Rattle.mirrored_nets.specs.ToldMachines.{IsReady, IsTold}
 use Rattle.mirrored_nets.specs.declared.came.Came.TheVariants as cames
 use Rattle.mirrored_nets.proofs.AskedMachines.{request_kept}
 use Rattle.mirrored_nets.proofs.EndedTurns.{turn_kept}

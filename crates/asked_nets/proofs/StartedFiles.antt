@@ -37,9 +37,9 @@ use Rattle.mirrored_nets.specs.DueStarts.{CanBegin, DownCanBegin, StandSo}
 use Rattle.mirrored_nets.specs.Goings.{IsSet}
 use Rattle.mirrored_nets.specs.Seen.{Seen}
 use Rattle.mirrored_nets.specs.Took.{HasRoom}
-use Rattle.mirrored_nets.specs.StruckStarts.{DownAreMarked, FailedStartsLeave, IsMarked, IsStanding, StartsLeave}
-use Rattle.mirrored_nets.specs.declared.judged.Armed.{Armed}
-use Rattle.mirrored_nets.specs.declared.judged.Armed.TheVariants as arms
+use Rattle.mirrored_nets.specs.LeftStarts.{DownAreMarked, FailedStartsLeave, IsMarked, IsStanding, StartsLeave}
+use Rattle.mirrored_nets.specs.declared.armed.Armed.{Armed}
+use Rattle.mirrored_nets.specs.declared.armed.Armed.TheVariants as arms
 use Rattle.call_readings.specs.Reads.{IsCutAt, IsUncut}
 use Rattle.call_readings.specs.ReadsStart.{LandsBy, LandsSo, ReadsStart, StartsAs}
 use Rattle.call_readings.specs.declared.became.Became.{Became}

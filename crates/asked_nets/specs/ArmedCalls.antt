@@ -7,8 +7,8 @@ use Rattle.schedules.specs.declared.line.Leaves.{Leaves}
 use Rattle.schedules.specs.declared.line.Leaves.TheVariants as leaves
 use Rattle.site_memory.specs.declared.arm.Choice.{Choice}
 use Rattle.site_memory.specs.declared.arm.Choice.TheVariants as choices
-use Rattle.mirrored_nets.specs.declared.judged.Armed.{Armed}
-use Rattle.mirrored_nets.specs.declared.judged.Armed.TheVariants as calls
+use Rattle.mirrored_nets.specs.declared.armed.Armed.{Armed}
+use Rattle.mirrored_nets.specs.declared.armed.Armed.TheVariants as calls
 
 -- what a stop leaves
 abbrev pub choice_of : Leaves → Choice

@@ -10,10 +10,10 @@ use Rattle.node_at.specs.declared.node.Node.{Node}
 use Rattle.site_memory.specs.declared.machine.MemSite.{MemSite}
 use Rattle.site_model.specs.Told.{Made}
 use Rattle.mirrored_nets.specs.Mirrors.{Mirrors}
-use Rattle.mirrored_nets.specs.StruckStarts.{IsMarked}
-use Rattle.mirrored_nets.specs.StruckTurns.{IsToldOf}
+use Rattle.mirrored_nets.specs.LeftStarts.{IsMarked}
+use Rattle.mirrored_nets.specs.ToldMachines.{IsToldOf}
 use Rattle.mirrored_nets.specs.Took.{Adds}
-use Rattle.mirrored_nets.specs.declared.judged.Armed.{Armed}
+use Rattle.mirrored_nets.specs.declared.armed.Armed.{Armed}
 use Rattle.call_readings.specs.ReadsStart.{ReadsStart}
 use Rattle.asked_nets.specs.ReadSteps.{HasBegun}
 

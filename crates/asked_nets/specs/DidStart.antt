@@ -8,7 +8,7 @@ use Rattle.site_memory.specs.declared.arm.Choice.TheVariants.{Keep}
 use Rattle.site_memory.specs.declared.machine.MemSite.{MemSite}
 use Rattle.site_model.specs.Told.{Made}
 use Rattle.mirrored_nets.specs.Took.{Adds, FellBack}
-use Rattle.mirrored_nets.specs.declared.judged.Armed.{Armed}
+use Rattle.mirrored_nets.specs.declared.armed.Armed.{Armed}
 use Rattle.call_readings.specs.ReadsStart.{LandsBy, StartsAs}
 use Rattle.call_readings.specs.declared.became.Became.{Became}
 use Rattle.call_readings.specs.declared.became.Became.TheVariants.{Stays, Falls, Halts, FallsAnew, HaltsAnew}

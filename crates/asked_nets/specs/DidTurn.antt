@@ -9,7 +9,7 @@ use Rattle.node_at.specs.declared.turn.Turned.{Turned}
 use Rattle.site_memory.specs.declared.machine.MemSite.{MemSite}
 use Rattle.site_model.specs.Told.{Made, sent_by}
 use Rattle.mirrored_nets.specs.Took.{Adds, EndsSo, HasRoom, IsTriedLine, LeftSo, kept_of}
-use Rattle.mirrored_nets.specs.declared.judged.Armed.{Armed}
+use Rattle.mirrored_nets.specs.declared.armed.Armed.{Armed}
 use Rattle.call_readings.specs.Reads.{Reads, came_to}
 use Rattle.call_readings.specs.declared.became.Became.{Became}
 use Rattle.asked_nets.specs.Behind.{goes_anew}

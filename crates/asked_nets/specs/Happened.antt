@@ -3,11 +3,11 @@ use Rattle.std.specs.Prelude.{ℕ, List, ◌≤◌, ◌<◌, ◌≡◌, Bool, So
 use Rattle.at_model.specs.Recovery.{last_incarnation}
 use Rattle.at_model.specs.World.{Node, World, WorldEvent, Turn, Ask, Crash, Up, node_of, nth}
 use Rattle.memory_net.specs.Mails.{mail_of}
-use Rattle.possible_events.specs.PossibleEvents.{IsOfEight}
+use Rattle.mirrored_nets.specs.ExampleRequests.{IsOfEight}
 use Rattle.mirrored_nets.specs.Mirrors.{Mirrors}
-use Rattle.mirrored_nets.specs.PossibleMoves.{FitsClock, MayCome}
+use Rattle.mirrored_nets.specs.MayCome.{FitsClock, MayCome}
 use Rattle.mirrored_nets.specs.Seen.{Seen}
-use Rattle.mirrored_nets.specs.declared.judged.Armed.{Armed}
+use Rattle.mirrored_nets.specs.declared.armed.Armed.{Armed}
 use Rattle.call_readings.specs.AskedEvents.{IsOf}
 use Rattle.asked_nets.specs.Behind.{world_behind}
 use Rattle.asked_nets.specs.ReadAnswers.{StepAnswers}

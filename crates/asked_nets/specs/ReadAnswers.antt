@@ -8,7 +8,7 @@ use Rattle.node_at.specs.declared.node.Node.{Node}
 use Rattle.node_at.specs.declared.turn.Turned.{Turned}
 use Rattle.mirrored_nets.specs.Answered.{HasEffects, IsAnswered, RefusesAlike}
 use Rattle.mirrored_nets.specs.Seen.{Seen}
-use Rattle.mirrored_nets.specs.declared.judged.Armed.{Armed}
+use Rattle.mirrored_nets.specs.declared.armed.Armed.{Armed}
 use Rattle.call_readings.specs.declared.became.Became.{Became}
 use Rattle.call_readings.specs.declared.became.Became.TheVariants.{Stays, Falls, Halts, FallsAnew, HaltsAnew}
 use Rattle.reading_laws.specs.GoneTurns.{TellsFallen, TellsHalted}

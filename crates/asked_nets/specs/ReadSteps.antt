@@ -10,11 +10,11 @@ use Rattle.site_memory.specs.declared.machine.MemSite.{MemSite}
 use Rattle.mirrored_nets.specs.Goings.{IsBrought, IsSet, ms_of}
 use Rattle.mirrored_nets.specs.NetSteps.{CrashesNode, IsGiven, RestsNode}
 use Rattle.mirrored_nets.specs.Seen.{Seen}
-use Rattle.mirrored_nets.specs.StruckTurns.{IsToldOf}
+use Rattle.mirrored_nets.specs.ToldMachines.{IsToldOf}
 use Rattle.mirrored_nets.specs.Took.{HasRoom}
 use Rattle.mirrored_nets.specs.TookStart.{HasLast}
-use Rattle.mirrored_nets.specs.declared.judged.Armed.{Armed}
-use Rattle.mirrored_nets.specs.declared.judged.Armed.TheVariants as calls
+use Rattle.mirrored_nets.specs.declared.armed.Armed.{Armed}
+use Rattle.mirrored_nets.specs.declared.armed.Armed.TheVariants as calls
 use Rattle.asked_nets.specs.DidRequest.{ReadRequest}
 use Rattle.asked_nets.specs.DidStart.{ReadStart}
 use Rattle.asked_nets.specs.DidTurn.{ReadTurn}

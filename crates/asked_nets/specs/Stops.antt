@@ -3,8 +3,8 @@ use Rattle.std.specs.Prelude.{ℕ, List, ◌||◌, None, Option, Some, if◌then
 use Rattle.site_memory.specs.declared.arm.Choice.{Choice}
 use Rattle.site_model.specs.Told.{Made}
 use Rattle.mirrored_nets.specs.Kept.{kept_at}
-use Rattle.mirrored_nets.specs.declared.judged.Armed.{Armed}
-use Rattle.mirrored_nets.specs.declared.judged.Armed.TheVariants as calls
+use Rattle.mirrored_nets.specs.declared.armed.Armed.{Armed}
+use Rattle.mirrored_nets.specs.declared.armed.Armed.TheVariants as calls
 
 -- how many of these calls are kept, where it comes to the one at which it is to stop, and what a crash there leaves
 abbrev pub stop_in : Armed → List Made → Option (ℕ × Choice)

@@ -4,7 +4,7 @@ ghost use Rattle.std.specs.Prelude.{◌≡◌};
 ghost use Rattle.asked_nets.specs.ArmedCalls.{call_of, choice_of};
 
 use armed_calls::fault::{Armed, Fault};
-use mirrored_nets::judged::Armed as Call;
+use mirrored_nets::armed::Armed as Call;
 use schedules::line::Leaves;
 use site_memory::arm::Choice;
 

@@ -10,9 +10,9 @@ ghost use Rattle.call_readings.specs.AskedEvents.{IsOf};
 ghost use Rattle.mirrored_nets.specs.Goings.{IsBrought, IsTick, ms_of};
 ghost use Rattle.mirrored_nets.specs.Mirrors.{Mirrors};
 ghost use Rattle.mirrored_nets.specs.NetSteps.{IsGiven, IsUnstarted};
-ghost use Rattle.mirrored_nets.specs.PossibleMoves.{IsNumbered, MayCome};
+ghost use Rattle.mirrored_nets.specs.MayCome.{IsNumbered, MayCome};
 ghost use Rattle.mirrored_nets.specs.Rooms.{HasRoomAt, IsFullAt};
-ghost use Rattle.mirrored_nets.specs.declared.judged.Armed.{Armed as Call};
+ghost use Rattle.mirrored_nets.specs.declared.armed.Armed.{Armed as Call};
 ghost use Rattle.read_calls.specs.IsRead.{fates_of};
 ghost use Rattle.asked_nets.specs.ArmedCalls.{call_of};
 ghost use Rattle.asked_nets.specs.Happened.{Happened, MayAsk, MirrorsAt};
@@ -37,9 +37,9 @@ use http_post::writer::tick_bytes;
 use memory_net::host::{Host, fresh};
 use memory_net::laws::letters_are_short;
 use memory_net::letter::Letter;
+use mirrored_nets::armed::Armed;
 use mirrored_nets::asks::names_examples;
 use mirrored_nets::host::{go_down, has_room, set};
-use mirrored_nets::judged::Armed;
 use mirrored_nets::laws::{down_can_begin, nets_mirror};
 use node_at::node::Node;
 use raw_requests::{Drawn, draw};
@@ -347,6 +347,13 @@ impl Net {
         ensures { result.now ≡ self.now.letters }
     {
         self.letters.as_slice()
+    }
+
+    /// The nodes, each on its machine, from node 1 on.
+    pub fn hosts(&self) -> &[Host]
+        ensures { result.now ≡ self.now.hosts }
+    {
+        self.hosts.as_slice()
     }
 
     /// Whether the journal of a node has room for another record.

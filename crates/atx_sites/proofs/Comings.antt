@@ -34,20 +34,20 @@ pub later_still : (old mid new : Calls) → Later old mid → Later mid new → 
 later_still old mid new l (none e) = subst (Later old) (sym e) l
 later_still old mid new l (more call m e) = more call (later_still old mid _ l m) e
 
-pub still_came : (listener stream : Number) (bytes : List ℕ) (old new : Calls) → Came listener stream bytes old → Later old new → Came listener stream bytes new
+pub still_came : (listener : Number) (stream : Number × SocketAddr) (bytes : List ℕ) (old new : Calls) → Came listener stream bytes old → Later old new → Came listener stream bytes new
 still_came listener stream bytes old new c (none e) = subst (Came listener stream bytes) (sym e) c
 still_came listener stream bytes old new c (more call l e) = beside call (still_came listener stream bytes old _ c l) e
 
 -- a read that gave bytes, which were added
-pub came_read : (listener stream : Number) (front bytes buf : List ℕ) (n : ℕ) (mid new : Calls) (got : Answer ℕ) → Came listener stream front mid
-    → new ≡ then (Read stream (given buf got)) mid → got ≡ Ok n → bytes ≡ front ++ take n buf → Came listener stream bytes new
+pub came_read : (listener : Number) (stream : Number × SocketAddr) (front bytes buf : List ℕ) (n : ℕ) (mid new : Calls) (got : Answer ℕ) → Came listener stream front mid
+    → new ≡ then (Read stream.0 (given buf got)) mid → got ≡ Ok n → bytes ≡ front ++ take n buf → Came listener stream bytes new
 came_read listener stream front bytes buf n mid new got c e r added =
-    read (take n buf) c added (e ∙ ap (λ (g : Answer ℕ). then (Read stream (given buf g)) mid) r)
+    read (take n buf) c added (e ∙ ap (λ (g : Answer ℕ). then (Read stream.0 (given buf g)) mid) r)
 
-pub came_by : (listener stream : Number) (bytes : List ℕ) (mid new : Calls) (call : Call) → Came listener stream bytes mid → new ≡ then call mid → Came listener stream bytes new
+pub came_by : (listener : Number) (stream : Number × SocketAddr) (bytes : List ℕ) (mid new : Calls) (call : Call) → Came listener stream bytes mid → new ≡ then call mid → Came listener stream bytes new
 came_by listener stream bytes mid new call c e = beside call c e
 
-pub came_same : (listener stream : Number) (front bytes : List ℕ) (mid new : Calls) (call : Call) → Came listener stream front mid → new ≡ then call mid → bytes ≡ front
+pub came_same : (listener : Number) (stream : Number × SocketAddr) (front bytes : List ℕ) (mid new : Calls) (call : Call) → Came listener stream front mid → new ≡ then call mid → bytes ≡ front
     → Came listener stream bytes new
 came_same listener stream front bytes mid new call c e s = beside call (subst (λ l. Came listener stream l mid) (sym s) c) e
 
@@ -58,7 +58,7 @@ module _ {C : Type 0} (number : C → Number) (listener : Number) where
   pub have_still : (old new : Calls) (items : List (Arriving C)) → HaveCome number listener old items → Later old new → HaveCome number listener new items
   have_still old new items h l =
       All-weaker (HasCome number listener old) (HasCome number listener new)
-      (λ a c. still_came listener (number a.stream) a.bytes.items old new c l) items h
+      (λ a c. still_came listener (number a.stream, a.peer) a.bytes.items old new c l) items h
 
   pub have_as : (old new : Calls) (items others : List (Arriving C)) → HaveCome number listener old items → new ≡ old → others ≡ items → HaveCome number listener new others
   have_as old new items others h e f = subst (HaveCome number listener new) (sym f) (subst (λ l. HaveCome number listener l items) (sym e) h)
@@ -86,7 +86,7 @@ module _ {L C : Type 0} (number : C → Number) (listens : L → Number) where
 
   -- the one that was served is closed, and the others wait as before
   pub served_still : (old new : Calls) (listener : Number) (served : Option (Served C)) → ServedCame number listener old served → Later old new → ServedCame number listener new served
-  served_still old new listener (Some s) h l = still_came listener (number s.arriving.stream) s.arriving.bytes.items old new h l
+  served_still old new listener (Some s) h l = still_came listener (number s.arriving.stream, s.arriving.peer) s.arriving.bytes.items old new h l
   served_still old new listener None h l = tt
 
   pub came_closed : (old new : Calls) (before after : Connection L C) → after.served ≡ None → (after.listener ≡ before.listener) × (after.waiting ≡ before.waiting) → Later old new
@@ -119,12 +119,12 @@ module _ {L C : Type 0} (number : C → Number) (listens : L → Number) where
   came_as calls listener taken served e h = subst (λ (a : Arriving C). HasCome number listener calls a) (sym e) h
 
 -- a connection that was accepted
-pub came_first : (listener stream : Number) (address : SocketAddr) (mid new : Calls) → new ≡ then (Accept listener (Ok (stream, address))) mid → Came listener stream [] new
-came_first listener stream address mid new e = accepted mid address refl e
+pub came_first : (listener : Number) (stream : Number × SocketAddr) (mid new : Calls) → new ≡ then (Accept listener (Ok stream)) mid → Came listener stream [] new
+came_first listener stream mid new e = accepted mid refl e
 
-pub came_accepted : {C : Type 0} (number : C → Number) (listener : Number) (mid new : Calls) (got : Answer (C × SocketAddr)) (stream : C) (address : SocketAddr)
-    → new ≡ then (Accept listener (answer (came number) got)) mid → got ≡ Ok (stream, address) → Came listener (number stream) [] new
-came_accepted number listener mid new got stream address e r = accepted mid address refl (e ∙ ap (λ a. then (Accept listener (answer (came number) a)) mid) r)
+pub came_accepted : {C : Type 0} (number : C → Number) (listener : Number) (mid new : Calls) (got : Answer (C × SocketAddr)) (stream : C × SocketAddr)
+    → new ≡ then (Accept listener (answer (came number) got)) mid → got ≡ Ok stream → Came listener (came number stream) [] new
+came_accepted number listener mid new got stream e r = accepted mid refl (e ∙ ap (λ a. then (Accept listener (answer (came number) a)) mid) r)
 
 pub no_more : (bytes : List ℕ) → Grows bytes bytes
 no_more bytes = ([], sym (append-nil bytes))
@@ -136,11 +136,13 @@ pub grown_more : (old mid new : List ℕ) → Grows old mid → Grows mid new �
 grown_more old mid new (one, e) (two, f) = (one ++ two, f ∙ ap (λ l. l ++ two) e ∙ append_assoc old one two)
 
 module _ {C : Type 0} (number : C → Number) where
-  pub came_if : (listener : Number) (calls : Calls) (got : Option C) (stream : C) → IfCame {C = C} {E = Error} number listener calls (Ok got) → got ≡ Some stream
-      → Came listener (number stream) [] calls
-  came_if listener calls got stream c e = subst (λ o. IfCame {C = C} {E = Error} number listener calls (Ok o)) e c
+  pub came_if : (listener : Number) (calls : Calls) (got : Option (C × SocketAddr)) (stream : C) (peer : SocketAddr) → IfCame {C = C} {E = Error} number listener calls (Ok got)
+      → got ≡ Some (stream, peer) → Came listener (number stream, peer) [] calls
+  came_if listener calls got stream peer c e = subst (λ o. IfCame {C = C} {E = Error} number listener calls (Ok o)) e c
 
 module _ {C : Type 0} (number : C → Number) (listener : Number) where
-  pub came_new : (calls : Calls) (stream : C) (a : Arriving C) → Came listener (number stream) [] calls → a.stream ≡ stream → a.bytes.items ≡ [] → HasCome number listener calls a
-  came_new calls stream a c e f =
-      subst (λ (s : C). Came listener (number s) a.bytes.items calls) (sym e) (subst (λ (l : List ℕ). Came listener (number stream) l calls) (sym f) c)
+  pub came_new : (calls : Calls) (stream : C) (peer : SocketAddr) (a : Arriving C) → Came listener (number stream, peer) [] calls → (a.stream ≡ stream) × (a.peer ≡ peer) → a.bytes.items ≡ []
+      → HasCome number listener calls a
+  came_new calls stream peer a c e f =
+      subst (λ (p : SocketAddr). Came listener (number a.stream, p) a.bytes.items calls) (sym e.1)
+      (subst (λ (s : C). Came listener (number s, peer) a.bytes.items calls) (sym e.0) (subst (λ (l : List ℕ). Came listener (number stream, peer) l calls) (sym f) c))

@@ -21,13 +21,13 @@ module _ {C : Type 0} where
   StaysSo before after = Stays before after × (after.said ≡ before.said)
 
   pub stays_so : (a : Arriving C) → StaysSo a a
-  stays_so a = ((refl, refl), refl)
+  stays_so a = ((refl, refl, refl), refl)
 
   pub stays_on : (a b c : Arriving C) → StaysSo a b → StaysSo b c → StaysSo a c
-  stays_on a b c p q = ((q.0.0 ∙ p.0.0, q.0.1 ∙ p.0.1), q.1 ∙ p.1)
+  stays_on a b c p q = ((q.0.0 ∙ p.0.0, q.0.1 ∙ p.0.1, q.0.2 ∙ p.0.2), q.1 ∙ p.1)
 
   pub stays_both : (a b c : Arriving C) → Stays a b → Stays b c → Stays a c
-  stays_both a b c p q = (q.0 ∙ p.0, q.1 ∙ p.1)
+  stays_both a b c p q = (q.0 ∙ p.0, q.1 ∙ p.1, q.2 ∙ p.2)
 
   module _ (number : C → Number) where
     pub heard_on : (a b : Arriving C) (old mid new : Calls) → StaysSo a b → Hears (number a.stream) old mid
@@ -39,4 +39,5 @@ module _ {C : Type 0} where
         → HasCome number listener old a → HasCome number listener new b
     came_said listener a b old new (got, e, said) same h =
         beside (Write (number a.stream) _ got)
-        (subst (λ s. Came listener (number s) b.bytes.items old) (sym same.1.0) (subst (λ v. Came listener (number a.stream) v.items old) (sym same.0) h)) e
+        (subst (λ p. Came listener (number b.stream, p) b.bytes.items old) (sym same.1.2)
+        (subst (λ s. Came listener (number s, a.peer) b.bytes.items old) (sym same.1.0) (subst (λ v. Came listener (number a.stream, a.peer) v.items old) (sym same.0) h))) e

@@ -43,7 +43,7 @@ names_kept calls old new e h = subst (λ (n : ResolvedNames). AreAnswered calls 
 module _ {L C : Type 0} (number : C → Number) (listens : L → Number) where
   served_still : (listener : Number) (old new : Calls) (served : Option (Served C)) → Later old new → ServedCame number listener old served → ServedCame number listener new served
   served_still listener old new None l h = tt
-  served_still listener old new (Some s) l h = still_came listener (number s.arriving.stream) s.arriving.bytes.items old new h l
+  served_still listener old new (Some s) l h = still_came listener (number s.arriving.stream, s.arriving.peer) s.arriving.bytes.items old new h l
 
   keeps_later : {E : Type 0} (bytes : List ℕ) (result : Result (Unit {0}) E) (old new : Served C) (before now : Calls) → Keeps number bytes result old new before now
       → Later before now × (new.arriving ≡ old.arriving)
@@ -65,7 +65,7 @@ module _ {L C : Type 0} (number : C → Number) (listens : L → Number) where
       → ServedCame number listener before old → ServedCame number listener now new
   sent_came listener bytes result (Some a) (Some b) before now h came =
       let k = kept_later a.is_cut bytes result a b before now h in
-      subst (λ (x : Arriving C). HasCome number listener now x) (sym k.1) (still_came listener (number a.arriving.stream) a.arriving.bytes.items before now came k.0)
+      subst (λ (x : Arriving C). HasCome number listener now x) (sym k.1) (still_came listener (number a.arriving.stream, a.arriving.peer) a.arriving.bytes.items before now came k.0)
   sent_came listener bytes result (Some a) None before now h came = absurd h
   sent_came listener bytes result None new before now (shut, e) came = subst (ServedCame number listener now) (sym shut) tt
 
@@ -103,6 +103,17 @@ module _ {L C : Type 0} (number : C → Number) (listens : L → Number) where
     paced = subst (λ k. All (LeavesInTime new) k) (sym same.0) (all_leave_later old new leaving.leaving.items h.paced l);
     answered = names_kept new leaving.names left.names same.2 (still_kept old new leaving.names.names.items h.answered l);
   }
+
+  -- behind one that makes room
+  pub holds_begun : (calls : Calls) (before after : Connection L C) (leaving left : Departures C) → after.waiting.arriving.items ≡ []
+      → (after.listener ≡ before.listener) × (after.served ≡ before.served)
+      → (left.leaving.items ≡ leaving.leaving.items) × (left.lost ≡ leaving.lost) × (left.names ≡ leaving.names) → Holds number listens calls before leaving → Holds number listens calls after left
+  holds_begun calls before after leaving left aside same gone h =
+      let came : ConnectionCame number listens calls after = (
+        subst (λ l. All (HasCome number (number_at listens after.listener) calls) l) (sym aside) (none_came number (number_at listens after.listener) calls),
+        subst (λ k. ServedCame number (number_at listens k) calls after.served) (sym same.0)
+            (subst (λ (s : Option (Served C)). ServedCame number (number_at listens before.listener) calls s) (sym same.1) h.came.1),
+      ) in holds_listening calls calls before after leaving left (none refl) came aside gone h
 
   -- behind one that takes a connection
   pub holds_taken : (old new : Calls) (before after : Connection L C) (leaving left : Departures C) → Later old new → (ConnectionCame number listens old before → ConnectionCame number listens new after)

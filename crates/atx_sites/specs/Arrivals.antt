@@ -1,7 +1,8 @@
 -- What is known of connections that are read aside.
 use Rattle.std.specs.Prelude.{ℕ, List, Bool, Option, Some, None, Result, Ok, Err, All, [], ◌++◌, ◌≡◌, ◌≤◌, ◌+◌, ◌⊎◌, ◌&&◌, ◌||◌, true, false, length, take, drop, is_err, not, nat_eq, nat_lt}
 use Rattle.std.specs.List.{sum_by}
-use Rattle.system_calls.specs.Calls.{Calls, Number}
+use Rattle.std.specs.declared.net.SocketAddr.{SocketAddr}
+use Rattle.system_calls.specs.Calls.{Calls, Number, came}
 use Rattle.atx_sites.specs.LinkCalls.{Came, Sending, number_at}
 use Rattle.std.specs.declared.time.Duration.{Duration}
 use Rattle.atx_sites.specs.Deadlines.{has_passed}
@@ -39,13 +40,13 @@ is_silent now arriving = is_more arriving.rest && nat_eq (length arriving.bytes.
 abbrev pub is_due : {C : Type 0} → Arriving C → Bool
 is_due arriving = arriving.progress.waits && nat_lt arriving.said 25 && is_coming arriving
 
--- it is the same connection, and has the same time
+-- it is the same connection from the same address, and has the same time
 abbrev pub Stays : {C : Type 0} → Arriving C → Arriving C → Type 0
-Stays before after = (after.stream ≡ before.stream) × (after.ends ≡ before.ends)
+Stays before after = (after.stream ≡ before.stream) × (after.ends ≡ before.ends) × (after.peer ≡ before.peer)
 
--- it came, and its bytes are those that its reads gave
+-- it came, from that address, and its bytes are those that its reads gave
 abbrev pub HasCome : {C : Type 0} → (C → Number) → Number → Calls → Arriving C → Type 0
-HasCome number listener calls arriving = Came listener (number arriving.stream) arriving.bytes.items calls
+HasCome number listener calls arriving = Came listener (number arriving.stream, arriving.peer) arriving.bytes.items calls
 
 -- each of them did
 abbrev pub HaveCome : {C : Type 0} → (C → Number) → Number → Calls → List (Arriving C) → Type 0
@@ -59,8 +60,8 @@ abbrev pub Bounded : {C : Type 0} → List (Arriving C) → Type 0
 Bounded arrivals = (length arrivals ≤ 1_024) × (sum_by size_of arrivals ≤ 67_108_864) × All (λ a. size_of a ≤ 131_072) arrivals
 
 -- one that was accepted, if any
-abbrev pub IfCame : {C E : Type 0} → (C → Number) → Number → Calls → Result (Option C) E → Type 0
-IfCame number listener calls (Ok (Some stream)) = Came listener (number stream) [] calls
+abbrev pub IfCame : {C E : Type 0} → (C → Number) → Number → Calls → Result (Option (C × SocketAddr)) E → Type 0
+IfCame number listener calls (Ok (Some accepted)) = Came listener (came number accepted) [] calls
 IfCame number listener calls (Ok None) = Unit {0}
 IfCame number listener calls (Err fault) = Unit {0}
 
@@ -72,6 +73,11 @@ Grows old new = (more : List ℕ) × (new ≡ old ++ more)
 abbrev pub ServedCame : {C : Type 0} → (C → Number) → Number → Calls → Option (Served C) → Type 0
 ServedCame number listener calls (Some served) = HasCome number listener calls served.arriving
 ServedCame number listener calls None = Unit {0}
+
+-- the address from which it comes
+abbrev pub IsPeer : {C : Type 0} → Option SocketAddr → Option (Served C) → Type 0
+IsPeer peer (Some served) = peer ≡ Some served.arriving.peer
+IsPeer peer None = peer ≡ None
 
 -- bytes that are given are the next of those that were read, of which none is lost
 abbrev pub Gives : {C E : Type 0} → List ℕ → Result ℕ E → Option (Served C) → Option (Served C) → Type 0

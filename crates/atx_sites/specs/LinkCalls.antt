@@ -48,13 +48,13 @@ Looks asks millis found old new =
     ⊎ ((looked : List pollfd) × (mid : Calls) × Polls asks millis looked false old mid
     × (Polls looked millis found true mid new ⊎ ((late : Calls) × Polls looked millis found false mid late × Pauses late new)))
 
--- a connection that accept on the listener gave, and the bytes that reads of it gave since, in order, each once. Other calls may
--- stand between
-pub data Came (listener stream : Number) : List ℕ → Calls → Type 0 where
-  accepted : {bytes : List ℕ} {new : Calls} (mid : Calls) (address : SocketAddr) → bytes ≡ [] → new ≡ then (Accept listener (Ok (stream, address))) mid
+-- a connection that accept on the listener gave, with the address that it comes from, and the bytes that reads of it gave since, in
+-- order, each once. Other calls may stand between
+pub data Came (listener : Number) (stream : Number × SocketAddr) : List ℕ → Calls → Type 0 where
+  accepted : {bytes : List ℕ} {new : Calls} (mid : Calls) → bytes ≡ [] → new ≡ then (Accept listener (Ok stream)) mid
       → Came listener stream bytes new
   read : {front bytes : List ℕ} {mid new : Calls} (got : List ℕ) → Came listener stream front mid → bytes ≡ front ++ got
-      → new ≡ then (Read stream (Ok got)) mid → Came listener stream bytes new
+      → new ≡ then (Read stream.0 (Ok got)) mid → Came listener stream bytes new
   beside : {bytes : List ℕ} {mid new : Calls} (call : Call) → Came listener stream bytes mid → new ≡ then call mid → Came listener stream bytes new
 
 -- so many of the bytes were taken: each write on the connection is of all that those before it didn't take, and no other call is made

@@ -14,6 +14,7 @@ use libc::net::{POLLIN, POLLOUT};
 use libc::types::pollfd;
 use std::alloc::Global;
 use std::io::{self, ErrorKind};
+use std::net::SocketAddr;
 use std::os::fd::AsRawFd;
 use std::time::Duration;
 use system_calls::system::System;
@@ -37,7 +38,7 @@ pub(crate) enum Rest {
     More,
     /// The peer sends nothing more.
     Ended,
-    /// Reading failed, or there was no memory for what came.
+    /// Reading failed.
     Failed,
 }
 
@@ -45,6 +46,8 @@ pub(crate) enum Rest {
 #[derive(Drop)]
 pub(crate) struct Arriving<C> {
     pub(crate) stream: C,
+    /// The address that it comes from.
+    pub(crate) peer: SocketAddr,
     pub(crate) bytes: Vec<u8>,
     pub(crate) rest: Rest,
     /// The time at which it has been read for long enough.
@@ -52,6 +55,8 @@ pub(crate) struct Arriving<C> {
     pub(crate) progress: Progress,
     /// How many bytes of the interim line the system took.
     pub(crate) said: usize,
+    /// Whether there was no memory for more when it was read last.
+    pub(crate) lacks: bool,
 }
 
 /// What the system is asked of a descriptor: whether there is something to read. It passes over a negative one.
@@ -69,13 +74,14 @@ fn passes(kind: ErrorKind) -> bool {
 }
 
 impl<C> Arriving<C> {
-    pub(crate) fn new(alloc: Global, stream: C, ends: Duration) -> Arriving<C>
-        ensures stream { result.stream ≡ stream }
+    pub(crate) fn new(alloc: Global, stream: C, peer: SocketAddr, ends: Duration) -> Arriving<C>
+        ensures stream { (result.stream ≡ stream) × (result.peer ≡ peer) }
         ensures bytes { result.bytes.items ≡ [] }
         ensures ends { result.ends ≡ ends }
     {
         Arriving {
             stream,
+            peer,
             bytes: Vec::new(alloc),
             rest: Rest::More,
             ends,
@@ -84,6 +90,7 @@ impl<C> Arriving<C> {
                 waits: false,
             },
             said: 0,
+            lacks: false,
         }
     }
 
@@ -139,16 +146,22 @@ fn is_read(stage: Stage) -> bool
     matches!(stage, Stage::Whole | Stage::Foreign)
 }
 
-/// What the system is asked of a connection that is read aside.
-pub(crate) fn asked_of<C: AsRawFd>(arriving: &Arriving<C>) -> pollfd {
-    let mut ask = asked(arriving.stream.as_raw_fd());
+/// What the system is asked of a connection that is read aside: nothing, unless it is to be looked at, and where there was no
+/// memory for what is there.
+pub(crate) fn asked_of<C: AsRawFd>(arriving: &Arriving<C>, looks: bool) -> pollfd {
+    let mut ask = asked(if looks && !arriving.lacks {
+        arriving.stream.as_raw_fd()
+    } else {
+        -1
+    });
     if arriving.is_due() {
         ask.events = POLLIN | POLLOUT;
     }
     ask
 }
 
-/// Reads once what has come, at most so many bytes and at most 8,192, and says how many.
+/// Reads once what has come, at most so many bytes and at most 8,192, and says how many. Where there is no memory for so many,
+/// nothing is read: what has come stays with the system.
 #[tactic(auto, using(crate::proofs::Comings::came_read, crate::proofs::Comings::came_by, crate::proofs::Comings::late_by, crate::proofs::Comings::grown, crate::proofs::Comings::no_more))]
 fn read_once<S: System>(system: &mut S, arriving: &mut Arriving<S::Stream>, most: usize) -> usize
     ensures came { (listener : Number) → HasCome S.Stream.raw_fd listener (S.calls system.old) arriving.old → HasCome S.Stream.raw_fd listener (S.calls system.new) arriving.new }
@@ -160,6 +173,10 @@ fn read_once<S: System>(system: &mut S, arriving: &mut Arriving<S::Stream>, most
 {
     let mut buf = [0u8; PIECE_BYTES];
     let piece = &mut buf[..most.min(PIECE_BYTES)];
+    arriving.lacks = arriving.bytes.reserve(piece.len()).is_err();
+    if arriving.lacks {
+        return 0;
+    }
     match system.read(&arriving.stream, piece) {
         Ok(0) => arriving.rest = Rest::Ended,
         Ok(n) => match arriving.bytes.extend_from_slice(&piece[..n]) {
@@ -257,7 +274,11 @@ pub(crate) fn read_on<S: System>(
             return Ok(());
         }
         let millis = left(system, arriving.ends)?;
-        if read_once(system, arriving, PIECE_BYTES) == 0 && arriving.rest == Rest::More {
+        let n = read_once(system, arriving, PIECE_BYTES);
+        if arriving.lacks {
+            return Err(ErrorKind::OutOfMemory.into());
+        }
+        if n == 0 && arriving.rest == Rest::More {
             let mut asks = [asked(arriving.stream.as_raw_fd())];
             system.poll(&mut asks, millis);
         }

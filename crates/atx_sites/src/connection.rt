@@ -4,8 +4,8 @@ ghost use Rattle.std.specs.Prelude.{[], ◌≡◌, ◌≤◌, ◌<◌, ◌+◌, 
 ghost use Rattle.std.specs.Io.{ReadsAtMost, WritesAtMost};
 ghost use Rattle.std.specs.declared.time.Duration.{Duration};
 ghost use Rattle.system_calls.specs.Calls.{Calls, Number};
-ghost use Rattle.atx_sites.specs.Arrivals.{Bounded, ConnectionCame, Gives, HasCome, HaveCome, Keeps, KeepsOn, ServedCame, is_ready, is_silent};
-ghost use Rattle.atx_sites.specs.LinkCalls.{IfListens, Later, Looks, Pauses, Polls, ReadsClock, Sends, number_at};
+ghost use Rattle.atx_sites.specs.Arrivals.{Bounded, ConnectionCame, Gives, HasCome, HaveCome, IsPeer, Keeps, KeepsOn, ServedCame, is_ready, is_silent};
+ghost use Rattle.atx_sites.specs.LinkCalls.{IfListens, Later, ReadsClock, Sends, number_at};
 ghost use Rattle.atx_sites.specs.Departures.{IsOnTime, IsTimed, Within};
 ghost use Rattle.atx_sites.specs.Interim.{begun_of};
 ghost use Rattle.atx_sites.specs.Waits.{Changes, IfAllOnTime, IfInTime, IsInTime};
@@ -16,21 +16,17 @@ ghost use Rattle.atx_sites.specs.Turns.{EndsBy, EndsTurn};
 ghost use Rattle.atx_sites.specs.declared.troubles.Step.TheVariants as steps;
 
 use crate::arriving::{Arriving, Rest, interim, read_on};
-use crate::deadlines::{earlier, has_passed, millis_until};
 use crate::departures::{self, Departures};
-use crate::pages::show_next;
-use crate::waiting::{self, Waiting, accept_all, read_found};
+use crate::looking::{advance, begun, is_over, wait_leaving, wait_once};
+use crate::showing::Shown;
+use crate::waiting::{self, Waiting};
 use libc::types::pollfd;
-use shown_pages::page::Counts;
-use shown_pages::pages::Pages;
 use std::alloc::{AllocError, Global};
 use std::io::{self, ErrorKind};
+use std::net::SocketAddr;
 use std::os::fd::AsRawFd;
 use std::time::Duration;
 use system_calls::system::System;
-
-/// The milliseconds of a pause where the system, or this process, lacks something.
-const PAUSE_MILLIS: i32 = 100;
 
 /// A connection that is served: what was read of it, how much of that was given, what of the answer the system hasn't taken,
 /// and whether some of the answer was lost.
@@ -42,40 +38,6 @@ pub struct Served<C> {
     is_cut: bool,
 }
 
-/// Since when pages are shown, and when the wait for a turn is over in which they are.
-#[derive(Clone, Copy)]
-struct Shown {
-    since: Option<Duration>,
-    until: Option<Duration>,
-}
-
-impl Shown {
-    fn new() -> Shown {
-        Shown {
-            since: None,
-            until: None,
-        }
-    }
-
-    /// Since when pages are shown: since now, where they weren't before.
-    fn since(&mut self, now: Duration) -> Duration {
-        let since = self.since.unwrap_or(now);
-        self.since = Some(since);
-        since
-    }
-
-    /// When a wait is over that began now, unless it began before.
-    fn begun(&mut self, every: Option<Duration>, now: Duration) -> Option<Duration> {
-        self.until = begun(self.until, every, now);
-        self.until
-    }
-
-    /// When the wait is over, which goes on where a connection is taken.
-    fn end(&mut self) -> Option<Duration> {
-        self.until.take()
-    }
-}
-
 /// A listener, the connections that are read aside, and the one that is served. Connections are served one after another.
 #[derive(Drop)]
 pub struct Connection<L, C> {
@@ -85,7 +47,7 @@ pub struct Connection<L, C> {
     pub(crate) waiting: Waiting<C>,
     /// What the system is to wait for; it keeps its room.
     pub(crate) asks: Vec<pollfd>,
-    shown: Shown,
+    pub(crate) shown: Shown,
 }
 
 impl<L: Drop, C: AsRawFd + Drop> Connection<L, C> {
@@ -104,6 +66,16 @@ impl<L: Drop, C: AsRawFd + Drop> Connection<L, C> {
     }
 }
 
+/// The address that the connection comes from which is served, if one is.
+pub(crate) fn peer<L, C>(connection: &Connection<L, C>) -> Option<SocketAddr>
+    ensures { IsPeer result connection.now.served }
+{
+    match &connection.served {
+        Some(served) => Some(served.arriving.peer),
+        None => None,
+    }
+}
+
 /// What was read of the connection that is served.
 pub(crate) fn request<L, C>(connection: &Connection<L, C>) -> &[u8] {
     match &connection.served {
@@ -116,7 +88,7 @@ pub(crate) fn request<L, C>(connection: &Connection<L, C>) -> &[u8] {
 const MOST_ASKS: usize = 1 + waiting::MOST + departures::MOST;
 
 /// Closes what is read aside, and makes room for as much as ever waits or leaves: none of these lists grows later.
-fn begin<L, C: AsRawFd + Drop>(
+pub(crate) fn begin<L, C: AsRawFd + Drop>(
     connection: &mut Connection<L, C>,
     departures: &mut Departures<C>,
 ) -> Result<(), AllocError>
@@ -157,157 +129,6 @@ pub(crate) fn listen<S: System>(
             Ok(())
         }
         Err(fault) => Err(fault),
-    }
-}
-
-/// What the system is to wait for: first of the listener, then of those that are read aside, and then of what leaves. Says
-/// how many are behind the listener and before what leaves.
-fn asked_of<L: AsRawFd, C: AsRawFd + Drop>(
-    listener: &L,
-    waiting: &Waiting<C>,
-    departures: &Departures<C>,
-    asks: &mut Vec<pollfd>,
-) -> Result<usize, AllocError> {
-    asks.clear();
-    waiting.asks(listener.as_raw_fd(), asks)?;
-    let arriving = asks.len();
-    departures.asks(asks)?;
-    Ok(arriving)
-}
-
-/// Does what poll found: connections are accepted and read aside.
-#[tactic(auto, using(crate::proofs::Comings::later_still))]
-fn go_on<S: System>(
-    system: &mut S,
-    waiting: &mut Waiting<S::Stream>,
-    listener: &S::Listener,
-    found: &[pollfd],
-    now: Duration,
-) -> io::Result<()>
-    ensures came { HaveCome S.Stream.raw_fd (S.Listener.raw_fd listener.now) (S.calls system.old) waiting.old.arriving.items → HaveCome S.Stream.raw_fd (S.Listener.raw_fd listener.now) (S.calls system.new) waiting.new.arriving.items }
-    ensures later { Later (S.calls system.old) (S.calls system.new) }
-    ensures fault { IfErr result (λ e. Ends (S.Listener.raw_fd listener.now) steps.Accept e (S.calls system.new)) }
-    ensures bounded { Bounded waiting.old.arriving.items → Bounded waiting.new.arriving.items }
-    ensures changes { (first : List (Arriving S.Stream)) (start : Calls) → ReadsClock now start (S.calls system.old) → Changes first start waiting.old.arriving.items (S.calls system.old) → Changes first start waiting.new.arriving.items (S.calls system.new) }
-{
-    let Some((first, others)) = found.split_first() else {
-        return Ok(());
-    };
-    read_found(system, waiting, others);
-    if first.revents != 0 || waiting.may_go_on(now) {
-        return accept_all(system, waiting, listener, now);
-    }
-    Ok(())
-}
-
-/// Waits for so long, and for nothing.
-fn pause<S: System>(system: &mut S)
-    ensures { Pauses (S.calls system.old) (S.calls system.new) }
-{
-    system.poll(&mut [], PAUSE_MILLIS);
-}
-
-/// Waits for nothing, unless the turn of one may come.
-#[tactic(auto, using(crate::proofs::Pausing::no_pause, crate::proofs::Pausing::pauses_later))]
-fn pause_unless<S: System>(system: &mut S, is_ready: bool)
-    ensures { Later (S.calls system.old) (S.calls system.new) }
-{
-    if !is_ready {
-        pause(system);
-    }
-}
-
-/// Polls. Whether that didn't fail.
-fn polls<S: System>(system: &mut S, asks: &mut [pollfd], millis: i32) -> bool
-    ensures { Polls asks.old millis asks.new result (S.calls system.old) (S.calls system.new) }
-{
-    system.poll(asks, millis) >= 0
-}
-
-/// Polls. What failed is tried again once, and where that fails too it pauses.
-fn look<S: System>(system: &mut S, asks: &mut [pollfd], millis: i32)
-    ensures { Looks asks.old millis asks.new (S.calls system.old) (S.calls system.new) }
-{
-    if polls(system, asks, millis) {
-        return;
-    }
-    if !polls(system, asks, millis) {
-        pause(system);
-    }
-}
-
-/// Waits until something can be done, or a time is over, and does it. Where the turn of one may come, nothing is waited for.
-/// Want of memory passes: it pauses then, unless the turn of one may come.
-#[tactic(auto, using(crate::proofs::Comings::as_late, crate::proofs::Comings::late_by, crate::proofs::Comings::later_still, crate::proofs::Comings::have_still, crate::proofs::Tellings::ended_clock))]
-fn wait_once<S: System>(
-    system: &mut S,
-    waiting: &mut Waiting<S::Stream>,
-    departures: &Departures<S::Stream>,
-    listener: &S::Listener,
-    asks: &mut Vec<pollfd>,
-    now: Duration,
-    until: Option<Duration>,
-) -> io::Result<()>
-    ensures came { HaveCome S.Stream.raw_fd (S.Listener.raw_fd listener.now) (S.calls system.old) waiting.old.arriving.items → HaveCome S.Stream.raw_fd (S.Listener.raw_fd listener.now) (S.calls system.new) waiting.new.arriving.items }
-    ensures later { Later (S.calls system.old) (S.calls system.new) }
-    ensures fault { IfErr result (λ e. Ends (S.Listener.raw_fd listener.now) steps.Accept e (S.calls system.new)) }
-    ensures bounded { Bounded waiting.old.arriving.items → Bounded waiting.new.arriving.items }
-    ensures changes { (first : List (Arriving S.Stream)) (start : Calls) → Changes first start waiting.old.arriving.items (S.calls system.old) → Changes first start waiting.new.arriving.items (S.calls system.new) }
-{
-    let is_ready = waiting.has_ready(now);
-    let Ok(arriving) = asked_of(listener, waiting, departures, asks) else {
-        pause_unless(system, is_ready);
-        return Ok(());
-    };
-    let until = if is_ready {
-        Some(now)
-    } else {
-        earlier(until, earlier(waiting.earliest(), departures.earliest()))
-    };
-    look(system, asks.as_mut_slice(), millis_until(now, until));
-    match system.monotonic() {
-        Ok(later) => {
-            let found = &asks[..arriving.min(asks.len())];
-            go_on(system, waiting, listener, found, later)
-        }
-        Err(fault) => Err(fault),
-    }
-}
-
-/// The time. What leaves goes on by it.
-fn advance<S: System>(
-    system: &mut S,
-    departures: &mut Departures<S::Stream>,
-) -> io::Result<Duration>
-    ensures later { Later (S.calls system.old) (S.calls system.new) }
-    ensures fault { (listener : Number) → IfErr result (λ e. Ends listener steps.Accept e (S.calls system.new)) }
-    ensures within { Within departures.old.leaving.items → Within departures.new.leaving.items }
-    ensures timed { All (IsTimed (S.calls system.old)) departures.old.leaving.items → All (IsTimed (S.calls system.new)) departures.new.leaving.items }
-    ensures names { departures.new.names ≡ departures.old.names }
-    ensures clock { IfOk result (λ now. ReadsClock now (S.calls system.old) (S.calls system.new)) }
-    ensures pace { IfOk result (λ now. All (IsOnTime (S.calls system.old) (S.calls system.new)) departures.new.leaving.items) }
-{
-    match system.monotonic() {
-        Ok(now) => {
-            departures::advance(system, departures, now);
-            Ok(now)
-        }
-        Err(fault) => Err(fault),
-    }
-}
-
-/// When a wait is over that began now, unless it began before.
-fn begun(until: Option<Duration>, every: Option<Duration>, now: Duration) -> Option<Duration> {
-    match (until, every) {
-        (None, Some(every)) => Some(now.saturating_add(every)),
-        (until, _) => until,
-    }
-}
-
-fn is_over(until: Option<Duration>, now: Duration) -> bool {
-    match until {
-        Some(until) => has_passed(until, now),
-        None => false,
     }
 }
 
@@ -391,7 +212,7 @@ fn wait<S: System>(
 {
     let mut until = until;
     'waits: for _ in 0..u64::MAX {
-        let now = match advance(system, departures) {
+        let now = match advance(system, departures, asks) {
             Ok(now) => now,
             Err(fault) => return Err(fault),
         };
@@ -476,122 +297,6 @@ pub(crate) fn take<S: System>(
         Ok(None) => Ok(()),
         Err(fault) => Err(fault),
     }
-}
-
-/// A time in milliseconds.
-fn millis_of(time: Duration) -> u64 {
-    u64::try_from(time.as_millis()).unwrap_or(u64::MAX)
-}
-
-/// What a machine counted by then.
-fn counted(base: &Counts, now: Duration, since: Duration, foreign: u64) -> Counts {
-    let mut counts = *base;
-    counts.clock = millis_of(now);
-    counts.up = millis_of(now.saturating_sub(since));
-    counts.foreign = foreign;
-    counts
-}
-
-/// Shows its page to one that asks for it, and else waits until something can be done, and does it. Whether that goes on: the turn
-/// of none may come yet, and the time isn't over.
-#[tactic(auto, using(crate::proofs::Comings::later_still))]
-fn show_or_wait<S: System, P: Pages>(
-    system: &mut S,
-    waiting: &mut Waiting<S::Stream>,
-    departures: &mut Departures<S::Stream>,
-    listener: &S::Listener,
-    asks: &mut Vec<pollfd>,
-    now: Duration,
-    until: Option<Duration>,
-    pages: &P,
-    counts: &Counts,
-) -> bool
-    ensures came { HaveCome S.Stream.raw_fd (S.Listener.raw_fd listener.now) (S.calls system.old) waiting.old.arriving.items → HaveCome S.Stream.raw_fd (S.Listener.raw_fd listener.now) (S.calls system.new) waiting.new.arriving.items }
-    ensures later { Later (S.calls system.old) (S.calls system.new) }
-    ensures bounded { Bounded waiting.old.arriving.items → Bounded waiting.new.arriving.items }
-    ensures within { Within departures.old.leaving.items → Within departures.new.leaving.items }
-    ensures changes { (first : List (Arriving S.Stream)) (start : Calls) → ReadsClock now start (S.calls system.old) → Changes first start waiting.old.arriving.items (S.calls system.old) → Changes first start waiting.new.arriving.items (S.calls system.new) }
-    ensures timed { All (IsTimed (S.calls system.old)) departures.old.leaving.items → All (IsTimed (S.calls system.new)) departures.new.leaving.items }
-    ensures names { departures.new.names ≡ departures.old.names }
-{
-    if show_next(system, waiting, departures, now, pages, counts) {
-        return true;
-    }
-    if waiting.has_ready(now) || is_over(until, now) {
-        return false;
-    }
-    wait_once(system, waiting, departures, listener, asks, now, until).is_ok()
-}
-
-/// Waits until the turn of one may come, or until then, and shows pages meanwhile.
-#[tactic(auto, using(crate::proofs::Comings::as_late, crate::proofs::Comings::later_still))]
-fn show_until<S: System, P: Pages>(
-    system: &mut S,
-    waiting: &mut Waiting<S::Stream>,
-    departures: &mut Departures<S::Stream>,
-    listener: &S::Listener,
-    asks: &mut Vec<pollfd>,
-    shown: &mut Shown,
-    every: Option<Duration>,
-    base: &Counts,
-    pages: &P,
-)
-    ensures came { HaveCome S.Stream.raw_fd (S.Listener.raw_fd listener.now) (S.calls system.old) waiting.old.arriving.items → HaveCome S.Stream.raw_fd (S.Listener.raw_fd listener.now) (S.calls system.new) waiting.new.arriving.items }
-    ensures later { Later (S.calls system.old) (S.calls system.new) }
-    ensures bounded { Bounded waiting.old.arriving.items → Bounded waiting.new.arriving.items }
-    ensures within { Within departures.old.leaving.items → Within departures.new.leaving.items }
-    ensures changes { (first : List (Arriving S.Stream)) (start : Calls) → Changes first start waiting.old.arriving.items (S.calls system.old) → Changes first start waiting.new.arriving.items (S.calls system.new) }
-    ensures timed { All (IsTimed (S.calls system.old)) departures.old.leaving.items → All (IsTimed (S.calls system.new)) departures.new.leaving.items }
-    ensures names { departures.new.names ≡ departures.old.names }
-{
-    'waits: for _ in 0..u64::MAX {
-        let Ok(now) = advance(system, departures) else {
-            return;
-        };
-        let until = shown.begun(every, now);
-        let counts = counted(base, now, shown.since(now), waiting.foreign);
-        if !show_or_wait(
-            system, waiting, departures, listener, asks, now, until, pages, &counts,
-        ) {
-            return;
-        }
-    }
-}
-
-/// Waits until the turn of one may come, or the time of a turn of its own, and shows pages meanwhile. What fails is left to who
-/// takes a connection.
-#[tactic(auto, using(crate::proofs::Comings::as_late))]
-pub(crate) fn show<S: System, P: Pages>(
-    system: &mut S,
-    connection: &mut Connection<S::Listener, S::Stream>,
-    departures: &mut Departures<S::Stream>,
-    every: Option<Duration>,
-    base: &Counts,
-    pages: &P,
-)
-    ensures same { (connection.new.listener ≡ connection.old.listener) × (connection.new.served ≡ connection.old.served) }
-    ensures came { ConnectionCame S.Stream.raw_fd S.Listener.raw_fd (S.calls system.old) connection.old → ConnectionCame S.Stream.raw_fd S.Listener.raw_fd (S.calls system.new) connection.new }
-    ensures later { Later (S.calls system.old) (S.calls system.new) }
-    ensures bounded { Bounded connection.old.waiting.arriving.items → Bounded connection.new.waiting.arriving.items }
-    ensures within { Within departures.old.leaving.items → Within departures.new.leaving.items }
-    ensures changes { Changes connection.old.waiting.arriving.items (S.calls system.old) connection.new.waiting.arriving.items (S.calls system.new) }
-    ensures timed { All (IsTimed (S.calls system.old)) departures.old.leaving.items → All (IsTimed (S.calls system.new)) departures.new.leaving.items }
-    ensures names { departures.new.names ≡ departures.old.names }
-{
-    let Some(listener) = &connection.listener else {
-        return;
-    };
-    show_until(
-        system,
-        &mut connection.waiting,
-        departures,
-        listener,
-        &mut connection.asks,
-        &mut connection.shown,
-        every,
-        base,
-        pages,
-    );
 }
 
 /// Gives bytes from a place on, as many as the buffer takes, and says how many.
@@ -765,26 +470,6 @@ pub(crate) fn close<S: System>(
     }
 }
 
-/// Waits until something that leaves can go on, or the time of one is over. Want of memory passes.
-fn wait_leaving<S: System>(
-    system: &mut S,
-    asks: &mut Vec<pollfd>,
-    departures: &Departures<S::Stream>,
-    now: Duration,
-)
-    ensures { Later (S.calls system.old) (S.calls system.new) }
-{
-    asks.clear();
-    match departures.asks(asks) {
-        Ok(()) => look(
-            system,
-            asks.as_mut_slice(),
-            millis_until(now, departures.earliest()),
-        ),
-        Err(AllocError) => pause(system),
-    }
-}
-
 /// Lets go out what still leaves, each until its own time is over.
 #[tactic(auto, using(crate::proofs::Comings::as_late, crate::proofs::Comings::later_still))]
 pub(crate) fn leave<S: System>(
@@ -798,7 +483,7 @@ pub(crate) fn leave<S: System>(
     ensures names { departures.new.names ≡ departures.old.names }
 {
     'waits: for _ in 0..u64::MAX {
-        let Ok(now) = advance(system, departures) else {
+        let Ok(now) = advance(system, departures, asks) else {
             return;
         };
         if departures.is_empty() {

@@ -24,6 +24,22 @@ pub(crate) fn earlier(one: Option<Duration>, other: Option<Duration>) -> Option<
     }
 }
 
+/// Whether one is new whose time is over then: it is no earlier than another time, or there is none.
+pub(crate) fn is_new(ends: Duration, from: Option<Duration>) -> bool {
+    match from {
+        Some(from) => ends >= from,
+        None => true,
+    }
+}
+
+/// When the time of one is over that began then, and has so many seconds.
+pub(crate) fn ends_of(since: Option<Duration>, seconds: u64) -> Option<Duration> {
+    match since {
+        Some(since) => Some(since.saturating_add(Duration::from_secs(seconds))),
+        None => None,
+    }
+}
+
 /// The milliseconds for which a poll waits until a time, rounded up; without a limit where there is none.
 pub(crate) fn millis_until(now: Duration, time: Option<Duration>) -> i32 {
     match time {

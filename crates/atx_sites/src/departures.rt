@@ -11,8 +11,10 @@ ghost use Rattle.atx_sites.specs.LinkCalls.{HasRead};
 ghost use Rattle.atx_sites.specs.Names.{AreAnswered};
 ghost use Rattle.atx_sites.specs.declared.outgoing.Outgoing.{Outgoing};
 
-use crate::outgoing::{self, Outgoing, is_taken};
-use crate::resolved_names::{self, ResolvedNames};
+use crate::deadlines::{ends_of, is_new};
+use crate::outgoing::{self, Outgoing, SEND_SECONDS, is_taken};
+use crate::resolved_names::{self, MOST_ADDRESSES, ResolvedNames};
+use crate::spares::copied;
 use libc::net::{POLLIN, POLLOUT};
 use libc::types::pollfd;
 use std::alloc::{AllocError, Global};
@@ -28,6 +30,9 @@ pub(crate) const MOST: usize = 1024;
 /// The most of them to one host, known by the first of its addresses.
 const MOST_TO_ONE: usize = 64;
 
+/// The most bytes of a post for which there is room where there is no memory.
+const SPARE_BYTES: usize = 65_536;
+
 /// The most bytes of all of them.
 const MOST_BYTES: usize = 16 * 1024 * 1024;
 
@@ -42,6 +47,9 @@ pub struct Departures<C> {
     names: ResolvedNames,
     /// How many answers and posts there were of which the system didn't take all bytes, and won't.
     pub(crate) lost: u64,
+    /// Room for a post, and for a host's addresses, where there is no memory for others.
+    spare: Vec<u8>,
+    spare_addresses: Vec<SocketAddr>,
 }
 
 impl<C: AsRawFd + Drop> Departures<C> {
@@ -54,14 +62,17 @@ impl<C: AsRawFd + Drop> Departures<C> {
             leaving: Vec::new(alloc),
             names: ResolvedNames::new(alloc),
             lost: 0,
+            spare: Vec::new(alloc),
+            spare_addresses: Vec::new(alloc),
         }
     }
 
-    /// Makes room for as many as may leave.
+    /// Makes room for as many as may leave, and for a post where there is no memory.
     pub(crate) fn begin(&mut self) -> Result<(), AllocError>
         ensures { (self.new.leaving.items ≡ self.old.leaving.items) × (self.new.lost ≡ self.old.lost) × (self.new.names ≡ self.old.names) }
     {
-        self.leaving.reserve(MOST)
+        self.leaving.reserve(MOST)?;
+        make_spare(&mut self.spare, &mut self.spare_addresses)
     }
 
     /// Whether nothing leaves.
@@ -78,13 +89,24 @@ impl<C: AsRawFd + Drop> Departures<C> {
         found
     }
 
-    /// Adds what the system is to wait for.
-    pub(crate) fn asks(&self, asks: &mut Vec<pollfd>) -> Result<(), AllocError> {
+    /// Adds what the system is to wait for; where a time is given, only of those that began since then.
+    pub(crate) fn asks(
+        &self,
+        since: Option<Duration>,
+        asks: &mut Vec<pollfd>,
+    ) -> Result<(), AllocError> {
+        let from = ends_of(since, SEND_SECONDS);
         for outgoing in self.leaving.iter() {
-            asks.push(asked(outgoing))?;
+            asks.push(asked(outgoing, is_new(outgoing.ends, from)))?;
         }
         Ok(())
     }
+}
+
+/// Makes room for a post and for a host's addresses.
+fn make_spare(bytes: &mut Vec<u8>, addresses: &mut Vec<SocketAddr>) -> Result<(), AllocError> {
+    bytes.reserve(SPARE_BYTES)?;
+    addresses.reserve(MOST_ADDRESSES)
 }
 
 fn sooner(found: Option<Duration>, ends: Duration) -> Duration {
@@ -94,9 +116,14 @@ fn sooner(found: Option<Duration>, ends: Duration) -> Duration {
     }
 }
 
-fn asked<C: AsRawFd + Drop>(outgoing: &Outgoing<C>) -> pollfd {
+/// What the system is asked of one; nothing, unless it is to be looked at.
+fn asked<C: AsRawFd + Drop>(outgoing: &Outgoing<C>, looks: bool) -> pollfd {
     pollfd {
-        fd: outgoing.stream.as_raw_fd(),
+        fd: if looks {
+            outgoing.stream.as_raw_fd()
+        } else {
+            -1
+        },
         events: if outgoing.is_ending() {
             POLLIN
         } else {
@@ -293,13 +320,19 @@ fn begin_post<S: System>(
     ensures within { Within departures.old.leaving.items → Within departures.new.leaving.items }
     ensures kept { AreAnswered (S.calls system.old) departures.old.names.names.items → AreAnswered (S.calls system.new) departures.new.names.names.items }
 {
-    let Ok(addresses) = resolved_names::addresses(system, &mut departures.names, host, port) else {
+    let Ok(addresses) = resolved_names::addresses(
+        system,
+        &mut departures.names,
+        &mut departures.spare_addresses,
+        host,
+        port,
+    ) else {
         return Err(ErrorKind::HostUnreachable.into());
     };
     let Ok(now) = system.monotonic() else {
         return Err(ErrorKind::Other.into());
     };
-    let Ok(bytes) = Vec::from_slice(departures.alloc, bytes) else {
+    let Ok(bytes) = copied(departures.alloc, &mut departures.spare, bytes) else {
         return Err(ErrorKind::OutOfMemory.into());
     };
     post_to(system, &mut departures.leaving, addresses, bytes, now)
@@ -389,34 +422,50 @@ fn close_over<C: Drop>(leaving: &mut Vec<Outgoing<C>>)
     leaving.retain(|outgoing| !outgoing.is_over());
 }
 
-/// Lets one go on.
+/// Whether poll found one so at its place.
+fn is_found(found: &[pollfd], place: usize) -> bool {
+    match found.get(place) {
+        Some(ask) => ask.revents != 0,
+        None => false,
+    }
+}
+
+/// Lets one go on, where it was found or its time is over.
 fn go_at<S: System>(
     system: &mut S,
     leaving: &mut Vec<Outgoing<S::Stream>>,
     place: usize,
+    is_found: bool,
     now: Duration,
 )
     requires { place < length leaving.old.items }
     ensures { WentAt S.Stream.raw_fd now place leaving.old.items (S.calls system.old) leaving.new.items (S.calls system.new) }
 {
     let outgoing = &mut leaving[place];
-    outgoing::go(system, outgoing, now);
+    outgoing::go_where(system, outgoing, is_found, now);
 }
 
-/// Lets each go on.
+/// Lets each go on that was found at its place, or whose time is over.
 #[tactic(auto, using(crate::proofs::DepartureLists::none_advance, crate::proofs::DepartureLists::all_advance))]
-fn go_each<S: System>(system: &mut S, leaving: &mut Vec<Outgoing<S::Stream>>, now: Duration)
+fn go_each<S: System>(
+    system: &mut S,
+    leaving: &mut Vec<Outgoing<S::Stream>>,
+    found: &[pollfd],
+    now: Duration,
+)
     ensures { Advances S.Stream.raw_fd now (S.calls system.old) leaving.old.items leaving.new.items (S.calls system.new) }
 {
     'places: for place in 0..leaving.len() {
-        go_at(system, leaving, place, now);
+        go_at(system, leaving, place, is_found(found, place), now);
     }
 }
 
-/// Lets each go on as far as it can without waiting, gives up those whose time is over, and closes those that are done.
+/// Lets each go on that was found at its place, as far as it can without waiting, gives up those whose time is over, and closes
+/// those that are done. Room for a post where there is no memory is made again.
 pub(crate) fn advance<S: System>(
     system: &mut S,
     departures: &mut Departures<S::Stream>,
+    found: &[pollfd],
     now: Duration,
 )
     ensures advances { (went : List (Outgoing S.Stream)) × Advances S.Stream.raw_fd now (S.calls system.old) departures.old.leaving.items went (S.calls system.new)
@@ -425,7 +474,8 @@ pub(crate) fn advance<S: System>(
     ensures within { Within departures.old.leaving.items → Within departures.new.leaving.items }
     ensures names { departures.new.names ≡ departures.old.names }
 {
-    go_each(system, &mut departures.leaving, now);
+    let _ = make_spare(&mut departures.spare, &mut departures.spare_addresses);
+    go_each(system, &mut departures.leaving, found, now);
     departures.lost = departures
         .lost
         .saturating_add(count_lost(&departures.leaving));

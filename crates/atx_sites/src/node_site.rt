@@ -7,7 +7,7 @@ ghost use Rattle.site_model.specs.Counts.{capped};
 ghost use Rattle.site_model.specs.Told.{Files as Files_told, Is, file_of};
 ghost use Rattle.site_model.specs.Told.Call.{Post, Send};
 ghost use Rattle.site_model.specs.declared.site.Taken.TheVariants.{Opened};
-ghost use Rattle.atx_sites.specs.Arrivals.{Gives, KeepsOn};
+ghost use Rattle.atx_sites.specs.Arrivals.{Gives, IsPeer, KeepsOn};
 ghost use Rattle.atx_sites.specs.Machines.{Holds};
 ghost use Rattle.atx_sites.specs.Resends.{PostsOrHolds, TellsTime};
 ghost use Rattle.atx_sites.specs.Turns.{EndsTurn};
@@ -25,6 +25,7 @@ use crate::departures::{self, Departures};
 use crate::disk::{self, Disk};
 use crate::faults::{counted, noted};
 use crate::resends::{is_held, millis};
+use crate::showing;
 use crate::troubles::{Line, Step, Trouble};
 use resend_delays::delays::Delays;
 use shown_pages::page::Counts;
@@ -34,6 +35,7 @@ use site_model::attachments::{Attachments, Given};
 use site_model::site::{AttachFailed, Site, Taken};
 use site_model::source::Failed;
 use std::alloc::{AllocError, Global};
+use std::net::SocketAddr;
 use std::time::Duration;
 use system_calls::system::System;
 
@@ -117,6 +119,26 @@ impl<S: System + Drop> NodeSite<S> {
         ensures { result ≡ self.now.trouble }
     {
         self.trouble
+    }
+
+    /// The address from which the connection comes that is served, if one is.
+    pub fn peer(&self) -> Option<SocketAddr>
+        ensures { IsPeer result self.now.connection.served }
+    {
+        connection::peer(&self.connection)
+    }
+
+    /// Takes the memory beforehand that serving wants: room for all connections that may wait and leave, and for a post where there is
+    /// no memory later. It is to be called before the machine is attached; without it that is taken where it begins to listen.
+    pub fn begin(&mut self) -> Result<(), AllocError>
+        ensures same { (self.new.disk ≡ self.old.disk) × (self.new.attached ≡ self.old.attached) × (self.new.trouble ≡ self.old.trouble) }
+        ensures counts { (self.new.accept ≡ self.old.accept) × (self.new.receive ≡ self.old.receive) × (self.new.link ≡ self.old.link) × (self.new.taken ≡ self.old.taken) }
+        ensures open { (self.new.connection.listener ≡ self.old.connection.listener) × (self.new.connection.served ≡ self.old.connection.served) }
+        ensures aside { self.new.connection.waiting.arriving.items ≡ [] }
+        ensures leaving { self.new.departures.leaving.items ≡ self.old.departures.leaving.items }
+        ensures holds { Holds S.Stream.raw_fd S.Listener.raw_fd (S.calls self.old.system) self.old.connection self.old.departures → Holds S.Stream.raw_fd S.Listener.raw_fd (S.calls self.new.system) self.new.connection self.new.departures }
+    {
+        connection::begin(&mut self.connection, &mut self.departures)
     }
 
     /// A trouble of this machine as one line of text, without its end.
@@ -411,7 +433,7 @@ impl<S: System + Drop> Showing for NodeSite<S> {
             foreign: 0,
             lost: self.departures.lost,
         };
-        connection::show(
+        showing::show(
             &mut self.system,
             &mut self.connection,
             &mut self.departures,

@@ -17,7 +17,7 @@ use system_calls::system::System;
 const CONNECT_SECONDS: u64 = 5;
 
 /// The seconds in which the system must take all bytes, from when the connection stands.
-const SEND_SECONDS: u64 = 5;
+pub(crate) const SEND_SECONDS: u64 = 5;
 
 /// The seconds for which what a peer answers to a post is read away.
 const ANSWER_SECONDS: u64 = 5;
@@ -360,4 +360,21 @@ pub(crate) fn go<S: System>(system: &mut S, outgoing: &mut Outgoing<S::Stream>, 
 {
     go_on(system, outgoing, now);
     give_up(outgoing, now);
+}
+
+/// Does what can be done now, where poll found something or its time is over.
+#[tactic(auto, using(crate::proofs::Leavings::stays))]
+pub(crate) fn go_where<S: System>(
+    system: &mut S,
+    outgoing: &mut Outgoing<S::Stream>,
+    is_found: bool,
+    now: Duration,
+)
+    ensures calls { Goes outgoing.old.addresses.items outgoing.old.bytes.items (S.Stream.raw_fd outgoing.old.stream) outgoing.old.done (S.calls system.old) (S.Stream.raw_fd outgoing.new.stream) outgoing.new.done (S.calls system.new) }
+    ensures same { (outgoing.new.bytes ≡ outgoing.old.bytes) × (outgoing.new.addresses ≡ outgoing.old.addresses) }
+    ensures time { GoesInTime now outgoing.old outgoing.new }
+{
+    if is_found || has_passed(outgoing.ends, now) {
+        go(system, outgoing, now);
+    }
 }

@@ -10,6 +10,7 @@ ghost use Rattle.atx_sites.specs.Departures.{IsBare, Looks};
 ghost use Rattle.atx_sites.specs.Names.{AreAnswered, IsAnswered, IsFor, LookedUp, MayReach};
 ghost use Rattle.atx_sites.specs.declared.resolved_names.Name.{Name};
 
+use crate::spares::{copied, room_for};
 use std::alloc::{AllocError, Global};
 use std::io::{self, ErrorKind};
 use std::net::{HostAddrs, IpAddr, SocketAddr};
@@ -21,6 +22,9 @@ const KEPT_SECONDS: u64 = 60;
 
 /// The most names that are kept.
 const MOST_NAMES: usize = 64;
+
+/// The most addresses that a host is looked up to have.
+pub(crate) const MOST_ADDRESSES: usize = 32;
 
 /// A name that was looked up, and its addresses: none where that failed.
 #[derive(Drop)]
@@ -111,13 +115,14 @@ fn gather(mut addresses: HostAddrs, found: &mut Vec<SocketAddr>) -> Result<(), A
 fn look_up<S: System>(
     system: &mut S,
     alloc: Global,
+    spare: &mut Vec<SocketAddr>,
     host: &str,
     port: u16,
 ) -> Result<Vec<SocketAddr>, AllocError>
     ensures looks { (first : Calls) → Looks host.now port first (S.calls system.old) → Looks host.now port first (S.calls system.new) }
     ensures found { IfOk result (λ v. LookedUp host.now port v.items (S.calls system.old) (S.calls system.new)) }
 {
-    let mut found = Vec::new(alloc);
+    let mut found = room_for(alloc, spare, MOST_ADDRESSES);
     match system.resolve(host, port) {
         Ok(addresses) => match gather(addresses, &mut found) {
             Ok(()) => Ok(found),
@@ -156,10 +161,30 @@ fn clock<S: System>(system: &mut S) -> io::Result<Duration>
     system.monotonic()
 }
 
-/// Looks a host up, and keeps what was answered.
+/// Keeps what was answered at that time. Where there is no memory for it, it isn't kept.
+fn keep_answer(
+    names: &mut ResolvedNames,
+    host: &str,
+    port: u16,
+    addresses: &[SocketAddr],
+    at: Duration,
+)
+    ensures { (old mid new : Calls) → LookedUp host.now port addresses.now old mid → new ≡ then (Monotonic (Ok at)) mid → AreAnswered new names.old.names.items → AreAnswered new names.new.names.items }
+{
+    let Ok(addresses) = Vec::from_slice(names.alloc, addresses) else {
+        return;
+    };
+    let Ok(host) = String::from_str(names.alloc, host) else {
+        return;
+    };
+    let _ = keep(&mut names.names, Name::new(host, port, addresses, at));
+}
+
+/// Looks a host up, and keeps what was answered, where there is memory for that.
 fn look_up_and_keep<S: System>(
     system: &mut S,
     names: &mut ResolvedNames,
+    spare: &mut Vec<SocketAddr>,
     host: &str,
     port: u16,
 ) -> io::Result<Vec<SocketAddr>>
@@ -167,15 +192,10 @@ fn look_up_and_keep<S: System>(
     ensures kept { AreAnswered (S.calls system.old) names.old.names.items → AreAnswered (S.calls system.new) names.new.names.items }
     ensures found { IfOk result (λ v. MayReach host.now port v.items (S.calls system.old) (S.calls system.new)) }
 {
-    let addresses = look_up(system, names.alloc, host, port)?;
-    let answer = Vec::from_slice(names.alloc, addresses.as_slice())?;
-    let host = String::from_str(names.alloc, host)?;
+    let addresses = look_up(system, names.alloc, spare, host, port)?;
     let at = clock(system)?;
-    let name = Name::new(host, port, addresses, at);
-    match keep(&mut names.names, name) {
-        Ok(()) => Ok(answer),
-        Err(AllocError) => Err(ErrorKind::OutOfMemory.into()),
-    }
+    keep_answer(names, host, port, addresses.as_slice(), at);
+    Ok(addresses)
 }
 
 /// The addresses of a name, which is looked up where it isn't kept.
@@ -183,6 +203,7 @@ fn look_up_and_keep<S: System>(
 fn addresses_of_name<S: System>(
     system: &mut S,
     names: &mut ResolvedNames,
+    spare: &mut Vec<SocketAddr>,
     host: &str,
     port: u16,
 ) -> io::Result<Vec<SocketAddr>>
@@ -195,16 +216,21 @@ fn addresses_of_name<S: System>(
         Err(fault) => return Err(fault),
     };
     match place(&names.names, host, port, now) {
-        Some(at) => Ok(Vec::from_slice(names.alloc, names.names[at].addresses.as_slice())?),
-        None => look_up_and_keep(system, names, host, port),
+        Some(at) => Ok(copied(names.alloc, spare, names.names[at].addresses.as_slice())?),
+        None => look_up_and_keep(system, names, spare, host, port),
     }
 }
 
 /// The address that is an IP address itself.
-fn address_of(alloc: Global, ip: IpAddr, port: u16) -> io::Result<Vec<SocketAddr>>
+fn address_of(
+    alloc: Global,
+    spare: &mut Vec<SocketAddr>,
+    ip: IpAddr,
+    port: u16,
+) -> io::Result<Vec<SocketAddr>>
     ensures { (host : List ℕ) (old new : Calls) → IsIpText host ip → IfOk result (λ v. MayReach host port v.items old new) }
 {
-    let mut found = Vec::new(alloc);
+    let mut found = room_for(alloc, spare, 1);
     found.push(SocketAddr::new(ip, port))?;
     Ok(found)
 }
@@ -213,6 +239,7 @@ fn address_of(alloc: Global, ip: IpAddr, port: u16) -> io::Result<Vec<SocketAddr
 fn addresses_of<S: System>(
     system: &mut S,
     names: &mut ResolvedNames,
+    spare: &mut Vec<SocketAddr>,
     host: &str,
     port: u16,
 ) -> io::Result<Vec<SocketAddr>>
@@ -222,16 +249,18 @@ fn addresses_of<S: System>(
 {
     let host = bare(host);
     match host.parse::<IpAddr>() {
-        Ok(ip) => address_of(names.alloc, ip, port),
-        Err(_) => addresses_of_name(system, names, host, port),
+        Ok(ip) => address_of(names.alloc, spare, ip, port),
+        Err(_) => addresses_of_name(system, names, spare, host, port),
     }
 }
 
 /// The addresses of a host at a port, in the order in which they are to be tried. A host that is an IP address, in brackets
-/// or not, is its own; a name is looked up, without a limit of time, unless it was within the last 60 seconds.
+/// or not, is its own; a name is looked up, without a limit of time, unless it was within the last 60 seconds, and there was memory to
+/// keep what it was answered. Where there is no memory for the addresses, they have the spare room.
 pub(crate) fn addresses<S: System>(
     system: &mut S,
     names: &mut ResolvedNames,
+    spare: &mut Vec<SocketAddr>,
     host: &str,
     port: u16,
 ) -> io::Result<Vec<SocketAddr>>
@@ -239,7 +268,7 @@ pub(crate) fn addresses<S: System>(
     ensures found { (bare : List ℕ) × IsBare host.now bare × Looks bare port (S.calls system.old) (S.calls system.new)
         × (AreAnswered (S.calls system.old) names.old.names.items → IfOk result (λ v. MayReach bare port v.items (S.calls system.old) (S.calls system.new))) }
 {
-    let found = match addresses_of(system, names, host, port) {
+    let found = match addresses_of(system, names, spare, host, port) {
         Ok(found) => found,
         Err(fault) => return Err(fault),
     };

@@ -12,12 +12,14 @@ ghost use Rattle.atx_sites.specs.Failures.{Ends};
 ghost use Rattle.atx_sites.specs.declared.troubles.Step.TheVariants as steps;
 
 use crate::arriving::{self, Arriving, asked, asked_of};
-use crate::deadlines::earlier;
+use crate::deadlines::{earlier, ends_of, is_new};
 use crate::framing::FIELDS;
+use crate::looked::Looked;
 use httparse::spans::{EMPTY_HEADER_SPAN, HeaderSpan};
 use libc::types::pollfd;
 use std::alloc::{AllocError, Global};
 use std::io::{self, ErrorKind};
+use std::net::SocketAddr;
 use std::os::fd::AsRawFd;
 use std::time::Duration;
 use system_calls::system::System;
@@ -31,7 +33,8 @@ const MOST_BYTES: usize = 67_108_864;
 /// The seconds in which a whole request must come.
 const REQUEST_SECONDS: u64 = 10;
 
-/// The milliseconds for which accept isn't called again where the system lacked something.
+/// The milliseconds for which accept isn't called again where the system lacked something, and nothing is read of a connection for
+/// whose bytes there was no memory.
 const PAUSE_MILLIS: u64 = 100;
 
 /// Connections that are read aside, in the order in which they were accepted. A peer that is slow or silent waits there
@@ -42,6 +45,7 @@ pub struct Waiting<C> {
     arriving: Vec<Arriving<C>>,
     places: Vec<HeaderSpan>,
     pause: Option<Duration>,
+    pub(crate) looked: Looked,
     /// Whether pages are shown: then who asks for one has no turn.
     pub(crate) shows: bool,
     /// How many web pages were refused.
@@ -72,6 +76,11 @@ fn is_wanting(fault: &io::Error) -> bool {
     )
 }
 
+/// When a pause is over that begins now.
+fn pause_from(now: Duration) -> Duration {
+    now.saturating_add(Duration::from_millis(PAUSE_MILLIS))
+}
+
 impl<C: AsRawFd + Drop> Waiting<C> {
     pub(crate) fn new(alloc: Global) -> Waiting<C>
         ensures { result.arriving.items ≡ [] }
@@ -81,6 +90,7 @@ impl<C: AsRawFd + Drop> Waiting<C> {
             arriving: Vec::new(alloc),
             places: Vec::new(alloc),
             pause: None,
+            looked: Looked::new(),
             shows: false,
             foreign: 0,
         }
@@ -92,6 +102,7 @@ impl<C: AsRawFd + Drop> Waiting<C> {
     {
         self.arriving.clear();
         self.pause = None;
+        self.looked = Looked::new();
         self.arriving.reserve(MOST)?;
         self.places.resize(FIELDS, EMPTY_HEADER_SPAN)
     }
@@ -117,11 +128,29 @@ impl<C: AsRawFd + Drop> Waiting<C> {
         earliest
     }
 
-    /// Adds what poll is to wait for: a new connection, unless accepting pauses, and something to read on each.
-    pub(crate) fn asks(&self, listener: i32, asks: &mut Vec<pollfd>) -> Result<(), AllocError> {
-        asks.push(asked(if self.pause.is_none() { listener } else { -1 }))?;
+    /// When a look ends at the latest: all are to be looked at again, or there is one for whose bytes there was no memory.
+    pub(crate) fn again(&self, now: Duration) -> Option<Duration> {
+        let again = self.looked.again(now);
         for arriving in self.arriving.iter() {
-            asks.push(asked_of(arriving))?;
+            if arriving.lacks {
+                return earlier(again, Some(pause_from(now)));
+            }
+        }
+        again
+    }
+
+    /// Adds what poll is to wait for: a new connection, unless accepting pauses, and something to read on each; where a time is
+    /// given, only on those that were accepted since then.
+    pub(crate) fn asks(
+        &self,
+        listener: i32,
+        since: Option<Duration>,
+        asks: &mut Vec<pollfd>,
+    ) -> Result<(), AllocError> {
+        asks.push(asked(if self.pause.is_none() { listener } else { -1 }))?;
+        let from = ends_of(since, REQUEST_SECONDS);
+        for arriving in self.arriving.iter() {
+            asks.push(asked_of(arriving, is_new(arriving.ends, from)))?;
         }
         Ok(())
     }
@@ -150,7 +179,10 @@ impl<C: AsRawFd + Drop> Waiting<C> {
     {
         self.close_silent(now);
         match place_of_ready(self.arriving.as_slice(), self.shows, pages, now) {
-            Some(place) => Some(self.arriving.remove(place)),
+            Some(place) => {
+                self.looked.serve();
+                Some(self.arriving.remove(place))
+            }
             None => None,
         }
     }
@@ -248,6 +280,11 @@ fn read_at<S: System>(system: &mut S, waiting: &mut Waiting<S::Stream>, place: u
     false
 }
 
+/// Whether there is something to read on one, or there was, and no memory for it.
+fn is_found<C>(ask: &pollfd, arriving: &Arriving<C>) -> bool {
+    ask.revents != 0 || arriving.lacks
+}
+
 /// Reads aside what poll found on each of them.
 #[tactic(auto, using(crate::proofs::Comings::as_late, crate::proofs::Comings::later_still))]
 pub(crate) fn read_found<S: System>(
@@ -265,7 +302,7 @@ pub(crate) fn read_found<S: System>(
         if place >= waiting.arriving.len() {
             return;
         }
-        if ask.revents == 0 || read_at(system, waiting, place) {
+        if !is_found(ask, &waiting.arriving[place]) || read_at(system, waiting, place) {
             place += 1;
         }
     }
@@ -278,16 +315,16 @@ fn accept_one<S: System>(
     listener: &S::Listener,
     pause: &mut Option<Duration>,
     now: Duration,
-) -> io::Result<Option<S::Stream>>
+) -> io::Result<Option<(S::Stream, SocketAddr)>>
     ensures came { IfCame S.Stream.raw_fd (S.Listener.raw_fd listener.now) (S.calls system.new) result }
     ensures later { Later (S.calls system.old) (S.calls system.new) }
     ensures fault { IfErr result (λ e. Ends (S.Listener.raw_fd listener.now) steps.Accept e (S.calls system.new)) }
 {
     match system.accept(listener) {
-        Ok((stream, _)) => Ok(Some(stream)),
+        Ok(accepted) => Ok(Some(accepted)),
         Err(fault) if is_passing(fault.kind()) => Ok(None),
         Err(fault) if is_wanting(&fault) => {
-            *pause = Some(now.saturating_add(Duration::from_millis(PAUSE_MILLIS)));
+            *pause = Some(pause_from(now));
             Ok(None)
         }
         Err(fault) => Err(fault),
@@ -300,15 +337,16 @@ fn begin<S: System>(
     system: &mut S,
     waiting: &mut Waiting<S::Stream>,
     stream: S::Stream,
+    peer: SocketAddr,
     now: Duration,
 )
-    ensures came { (listener : Number) → Came listener (S.Stream.raw_fd stream) [] (S.calls system.old) → HaveCome S.Stream.raw_fd listener (S.calls system.old) waiting.old.arriving.items → HaveCome S.Stream.raw_fd listener (S.calls system.new) waiting.new.arriving.items }
+    ensures came { (listener : Number) → Came listener (S.Stream.raw_fd stream, peer) [] (S.calls system.old) → HaveCome S.Stream.raw_fd listener (S.calls system.old) waiting.old.arriving.items → HaveCome S.Stream.raw_fd listener (S.calls system.new) waiting.new.arriving.items }
     ensures later { Later (S.calls system.old) (S.calls system.new) }
     ensures bounded { Bounded waiting.old.arriving.items → Bounded waiting.new.arriving.items }
     ensures changes { (first : List (Arriving S.Stream)) (start : Calls) → ReadsClock now start (S.calls system.old) → Changes first start waiting.old.arriving.items (S.calls system.old) → Changes first start waiting.new.arriving.items (S.calls system.new) }
 {
     let ends = now.saturating_add(Duration::from_secs(REQUEST_SECONDS));
-    let mut arriving = Arriving::new(waiting.alloc, stream, ends);
+    let mut arriving = Arriving::new(waiting.alloc, stream, peer, ends);
     let room = waiting.room();
     arriving::hear(system, &mut arriving, waiting.places.as_mut_slice(), room);
     waiting.keep(arriving, now);
@@ -331,7 +369,7 @@ pub(crate) fn accept_all<S: System>(
     waiting.pause = None;
     'accepted: for _ in 0..MOST {
         match accept_one(system, listener, &mut waiting.pause, now) {
-            Ok(Some(stream)) => begin(system, waiting, stream, now),
+            Ok(Some((stream, peer))) => begin(system, waiting, stream, peer, now),
             Ok(None) => return Ok(()),
             Err(fault) => return Err(fault),
         }

@@ -11,10 +11,10 @@ use Rattle.site_memory.specs.declared.machine.MemSite.{MemSite}
 use Rattle.site_model.specs.Told.{Made}
 use Rattle.torn_appends.specs.TornAppends.{stands_behind}
 use Rattle.mirrored_nets.specs.Fates.{AllDone}
-use Rattle.mirrored_nets.specs.StruckStarts.{IsStanding}
+use Rattle.mirrored_nets.specs.LeftStarts.{IsStanding}
 use Rattle.mirrored_nets.specs.Took.{FellBack}
 use Rattle.mirrored_nets.specs.TookStart.{HasLast}
-use Rattle.mirrored_nets.specs.declared.judged.Armed.{Armed}
+use Rattle.mirrored_nets.specs.declared.armed.Armed.{Armed}
 use Rattle.call_readings.specs.Reads.{FailsLast, IsCutAt, IsFailing, IsUncut, failing_call}
 use Rattle.call_readings.specs.declared.became.Became.{Became}
 use Rattle.call_readings.specs.declared.became.Became.TheVariants.{Stays, Falls, Halts, FallsAnew, HaltsAnew}

@@ -1,5 +1,5 @@
 -- What was read and printed, as the clauses of the top call say it.
-use Rattle.std.proofs.Common.{◌≡◌, ℕ, List, [], ◌∷◌, Bool, true, false, Option, Some, None, IsTrue, IfSome, Result, Ok, Err, length, take, nat_eq, ◌≤◌, ◌||◌, refl, sym, subst, ◌∙◌}
+use Rattle.std.proofs.Common.{◌≡◌, ℕ, List, [], ◌∷◌, Bool, true, false, Option, Some, None, IsTrue, IfSome, Result, Ok, Err, length, take, nat_eq, ◌≤◌, ◌||◌, ◌⊎◌, inl, inr, append-nil, refl, sym, subst, ◌∙◌}
 use Rattle.std.proofs.lemmas.Bool.{eqb-true}
 use Rattle.std.specs.List.{list_any}
 use Rattle.std.specs.Io.KnownBytes.{Appends}
@@ -7,14 +7,16 @@ use Rattle.site_model.specs.Counts.{RisesBy}
 use Rattle.site_model.specs.Source.{IsWhole}
 use Rattle.envelope_cmd.specs.Output.{Output, accepted, refused}
 use Rattle.mirrored_nets.specs.Seen.{Seen}
-use Rattle.net_replay.specs.NetReports.{HasNoRoom, IsNetReport, TakesTooManyEvents}
-use Rattle.command_line.specs.Jobs.{Filter}
+use Rattle.net_plays.specs.NetReports.{IsNetReport}
+use Rattle.net_plays.specs.Stops.{HasNoReport}
+use Rattle.net_plays.specs.Stops.Why.{HasMany, IsFull}
+use Rattle.net_plays.specs.declared.play_error.PlayError.{PlayError}
+use Rattle.net_plays.specs.declared.play_error.PlayError.TheVariants.{NoMemory, TooManyEvents}
+use Rattle.command_line.specs.Jobs.{Filter, is_replay}
 use Rattle.replay_cmd.specs.declared.options.Options.{Options}
-use Rattle.replay_cmd.specs.Laws.{ReadIsReplayable, ReportsAreSafe, ReportsComeToRest}
-use Rattle.schedules.specs.Schedules.{schedule_of}
 use Rattle.schedules.specs.declared.line.BadLine.{BadLine}
 use Rattle.schedules.specs.declared.line.Line.{Line}
-use Rattle.command_line.specs.Reports.{FindsNoRoom, FindsTooManyEvents, HasNoRoomFor, IsCut, IsDone, IsReplayOf, IsReplayed, Replays, Reports, bad_line, status_of}
+use Rattle.command_line.specs.Reports.{FindsNoRoom, FindsTooManyEvents, HasNoRoomFor, IsCut, IsDone, IsReport, IsReplayed, Replays, Reports, bad_line, status_of}
 
 pub on_some : {P Q : List ℕ → Type 0} (left : Option (List ℕ)) → ((input : List ℕ) → P input → Q input) → IfSome left P → IfSome left Q
 on_some None f h = tt
@@ -53,16 +55,6 @@ part_printed left before now bytes told job old new output whole t reports (n, (
     on_some {P = λ input. bytes ≡ input} {Q = λ input. IsCut job input old new} left
     (λ input f. record { output = output; reports = reported job bytes told input output t f reports; count = n; within = within; printed = part }) whole.all
 
-pub replay_of :
-    (options : Options) (input : List ℕ) (output : Output) → ReadIsReplayable → ReportsAreSafe → ReportsComeToRest → Replays options (schedule_of input) output
-    → IsReplayOf options input output
-replay_of options input output reads safe rests e =
-    record {
-      is = e;
-      safe = λ draws lines f. safe options.settle draws lines (reads input lines f);
-      rests = λ draws lines f. rests draws lines (reads input lines f);
-    }
-
 pub replayed_so :
     (options : Options) (lines : List Line) (text : List ℕ) (net : Seen) (output : Output) → IsNetReport options lines text net → output ≡ accepted text → IsReplayed options lines output
 replayed_so options lines text net output h e = record { text = text; net = net; report = h; is = e }
@@ -77,12 +69,22 @@ pub refuses_so :
     → Replays options r output
 refuses_so options r bad output e h = subst (λ x. Replays options x output) (sym e) h
 
-pub finds_so : (options : Options) (r : Result (List Line) BadLine) (lines : List Line) → r ≡ Ok lines → HasNoRoom options lines → FindsNoRoom options r
+pub finds_so : (options : Options) (r : Result (List Line) BadLine) (lines : List Line) → r ≡ Ok lines → HasNoReport IsFull options.settle lines → FindsNoRoom options r
 finds_so options r lines e h = subst (λ x. FindsNoRoom options x) (sym e) h
 
-pub finds_many_so : (options : Options) (r : Result (List Line) BadLine) (lines : List Line) → r ≡ Ok lines → TakesTooManyEvents options lines → FindsTooManyEvents options r
+pub finds_many_so : (options : Options) (r : Result (List Line) BadLine) (lines : List Line) → r ≡ Ok lines → HasNoReport HasMany options.settle lines → FindsTooManyEvents options r
 finds_many_so options r lines e h = subst (λ x. FindsTooManyEvents options x) (sym e) h
 
 pub none_given : (left : Option (List ℕ)) (before now : ℕ) (bytes told : List ℕ) (job : Filter) → IsWhole left before now bytes → told ≡ bytes → HasNoRoomFor job told → IfSome left (HasNoRoomFor job)
 none_given left before now bytes told job whole t none =
     on_some {P = λ input. bytes ≡ input} {Q = λ input. HasNoRoomFor job input} left (λ input f. subst (HasNoRoomFor job) (t ∙ f) none) whole.all
+
+appends_nothing : (x : Option (List ℕ)) → Appends x x []
+appends_nothing None = tt
+appends_nothing (Some xs) = sym (append-nil xs)
+
+-- a replay that would have had too many events printed nothing
+pub undone_so : (job : Filter) (input : List ℕ) (contents : Option (List ℕ)) (e : PlayError) → e ≡ TooManyEvents → (e ≡ NoMemory) ⊎ (is_replay job ≡ true)
+    → IsReport job input contents contents 14
+undone_so job input contents e is (inl none) = let both : TooManyEvents ≡ NoMemory = sym is ∙ none in absurd cc
+undone_so job input contents e is (inr replays) = inr (record { silent = appends_nothing contents; cause = inr (replays, inr refl) })

@@ -5,8 +5,9 @@ use Rattle.std.specs.Io.KnownBytes.{Appends}
 use Rattle.std.proofs.lemmas.Bool.{leb-true}
 use Rattle.clap.specs.Simple.{subcommand_of}
 use Rattle.clap.specs.Walk.{Row, Text, first_of}
+use Rattle.net_plays.specs.MadePlays.{MadeArePlayed}
 use Rattle.replay_cmd.specs.Laws.{IsSafe}
-use Rattle.replay_cmd.specs.ReportOf.{summary_of, world_made}
+use Rattle.replay_cmd.specs.MadeCourses.{summary_of, world_made}
 use Rattle.schedules.specs.Values.{decimal_of, within}
 use Rattle.schedules.specs.declared.line.Cause.TheVariants.{Number}
 use Rattle.command_line.specs.Commands.{whole}
@@ -39,9 +40,9 @@ few_steps words seed steps h = by_found (subcommand_of whole words) h.1
 
 -- what was written is the line that was made
 
-pub is_summed : (seed steps : ℕ) (bytes : List ℕ) (old new : Option (List ℕ)) → bytes ≡ summary_of seed steps → IsSafe 4 (world_made seed steps) → Appends old new bytes
+pub is_summed : (seed steps : ℕ) (bytes : List ℕ) (old new : Option (List ℕ)) → bytes ≡ summary_of seed steps → IsSafe 4 (world_made seed steps) → MadeArePlayed → Appends old new bytes
     → IsSummed seed steps old new
-is_summed seed steps bytes old new e safe told = record { printed = subst (Appends old new) e told; safe = safe }
+is_summed seed steps bytes old new e safe played told = record { printed = subst (Appends old new) e told; safe = safe; played = played seed steps }
 
 pub is_summed_in_part : (seed steps : ℕ) (bytes : List ℕ) (old new : Option (List ℕ)) → bytes ≡ summary_of seed steps
     → (n : ℕ) × ((n ≤ length bytes) × Appends old new (take n bytes)) → IsSummedInPart seed steps old new

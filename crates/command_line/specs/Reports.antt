@@ -5,11 +5,10 @@ use Rattle.envelope_cmd.specs.Output.{Output, accepted, refused}
 use Rattle.envelope_cmd.specs.Cells.{IsCellOf}
 use Rattle.envelope_cmd.specs.Checks.{IsCheckOf}
 use Rattle.mirrored_nets.specs.Seen.{Seen}
-use Rattle.net_replay.specs.NetReports.{HasNoRoom, IsNetReport, TakesTooManyEvents}
-use Rattle.raw_requests.specs.declared.Drawn.{Drawn}
-use Rattle.replay_cmd.specs.Laws.{ComesToRest, IsSafe}
+use Rattle.net_plays.specs.NetReports.{IsNetReport}
+use Rattle.net_plays.specs.Stops.{HasNoReport}
+use Rattle.net_plays.specs.Stops.Why.{HasMany, IsFull}
 use Rattle.replay_cmd.specs.declared.options.Options.{Options}
-use Rattle.replay_cmd.specs.ReportOf.{nodes_of, world_with}
 use Rattle.schedules.specs.Causes.{number_of_cause}
 use Rattle.schedules.specs.Schedules.{schedule_of}
 use Rattle.schedules.specs.declared.line.BadLine.{BadLine}
@@ -21,7 +20,8 @@ use Rattle.command_line.specs.Jobs.Filter.{Cell, Check, Replay}
 unfoldable pub bad_line : BadLine → List ℕ
 bad_line bad = codes "line " ++ (decimal bad.line ++ (codes " cause " ++ (decimal (number_of_cause bad.cause) ++ codes "\n")))
 
--- The report of a schedule, with what is asked beside it; and so its nodes ran on machines in memory.
+-- The report of a schedule, with what is asked beside it, and the nodes that it is of, on machines in memory. In its world no two participants of one
+-- transaction end differently, and all else holds of it that holds of every run (`safe`); where it is brought to rest, it is at rest (`settled`).
 pub record IsReplayed (options : Options) (lines : List Line) (output : Output) : Type 0 where
   pub text : List ℕ
   pub net : Seen
@@ -33,16 +33,9 @@ abbrev pub Replays : Options → Result (List Line) BadLine → Output → Type 
 Replays options (Ok lines) output = IsReplayed options lines output
 Replays options (Err bad) output = output ≡ refused (bad_line bad)
 
--- The report of a schedule is of a world in which no two participants of one transaction end differently, with all else that
--- holds of every run, whatever the bytes draw that its lines bring. A world that is brought to rest is at rest.
-pub record IsReplayOf (options : Options) (input : List ℕ) (output : Output) : Type 0 where
-  pub is : Replays options (schedule_of input) output
-  pub safe : (draws : List (Option Drawn)) (lines : List Line) → schedule_of input ≡ Ok lines → IsSafe (nodes_of lines) (world_with options.settle draws lines)
-  pub rests : (draws : List (Option Drawn)) (lines : List Line) → schedule_of input ≡ Ok lines → ComesToRest draws lines
-
 -- There is no report: on the way the journal of a node has no room for another record.
 abbrev pub FindsNoRoom : Options → Result (List Line) BadLine → Type 0
-FindsNoRoom options (Ok lines) = HasNoRoom options lines
+FindsNoRoom options (Ok lines) = HasNoReport IsFull options.settle lines
 FindsNoRoom options (Err bad) = ⊥
 
 -- of a replay alone
@@ -51,9 +44,9 @@ HasNoRoomFor (Cell state) input = ⊥
 HasNoRoomFor (Check path) input = ⊥
 HasNoRoomFor (Replay options) input = FindsNoRoom options (schedule_of input)
 
--- There is no report: its world would have more than 4,294,967,295 events.
+-- There is no report: on the way, or with the events that bring it to rest, its world would have more than 4,294,967,295 events.
 abbrev pub FindsTooManyEvents : Options → Result (List Line) BadLine → Type 0
-FindsTooManyEvents options (Ok lines) = TakesTooManyEvents options lines
+FindsTooManyEvents options (Ok lines) = HasNoReport HasMany options.settle lines
 FindsTooManyEvents options (Err bad) = ⊥
 
 abbrev pub HasTooManyEventsFor : Filter → List ℕ → Type 0
@@ -65,7 +58,7 @@ HasTooManyEventsFor (Replay options) input = FindsTooManyEvents options (schedul
 abbrev pub Reports : Filter → List ℕ → Output → Type 0
 Reports (Cell state) input output = IsCellOf input state output
 Reports (Check path) input output = IsCheckOf input path output
-Reports (Replay options) input output = IsReplayOf options input output
+Reports (Replay options) input output = Replays options (schedule_of input) output
 
 -- 0 where it ended, 3 where it refused its input
 abbrev pub status_of : Output → ℕ

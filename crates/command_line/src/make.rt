@@ -7,7 +7,8 @@ ghost use Rattle.site_model.specs.Counts.{Rose};
 ghost use Rattle.command_line.specs.Summaries.{IsSummed, IsSummedInPart};
 
 use crate::run::{DONE, NO_MEMORY, SINK_FAILED};
-use replay_cmd::replay::summary;
+use net_plays::laws::made_are_played;
+use replay_cmd::summary::summary;
 use site_model::sink::{Sink, write_all};
 use std::alloc::Global;
 
@@ -21,6 +22,7 @@ pub(crate) fn make<K: Sink>(alloc: Global, seed: u64, steps: u16, sink: &mut K) 
     ensures part { result ≡ 5 → IsSummedInPart seed steps (K.contents sink.old) (K.contents sink.new) }
     ensures quiet { result ≡ 9 → Appends (K.contents sink.old) (K.contents sink.new) [] }
 {
+    made_are_played();
     let line = match summary(alloc, seed, steps) {
         Ok(line) => line,
         Err(_) => return NO_MEMORY,

@@ -15,7 +15,7 @@ ghost use Rattle.command_line.specs.Journals.{HasShown, HasShownLine};
 ghost use Rattle.command_line.specs.Jobs.Job.{Filters, Make, Serve, Show, ShowLine, Tick};
 ghost use Rattle.command_line.specs.Servings.{HasServed, Initiates, initiates};
 ghost use Rattle.command_line.specs.Summaries.{IsSummed, IsSummedInPart};
-ghost use Rattle.net_replay.specs.declared.replay_error.ReplayError.TheVariants.{Full, NoMemory, TooManyEvents};
+ghost use Rattle.net_plays.specs.declared.play_error.PlayError.TheVariants.{Full, NoMemory, TooManyEvents};
 ghost use Rattle.command_line.specs.Ticks.{FailedToTick, HasTicked};
 ghost use Rattle.command_line.specs.Views.{meant_filter, no_base, no_destination, no_journal_base, no_numbers, no_serving, statuses_of, told, unknown_state, unread_text, Leaves};
 
@@ -30,7 +30,7 @@ use envelope_cmd::check::check;
 use envelope_cmd::output::Printed;
 use journal_cmd::files::Files;
 use journal_cmd::journal::{journal, journal_line};
-use net_replay::replay_error::ReplayError;
+use net_plays::play_error::PlayError;
 use shown_pages::showing::Showing;
 use site_model::sink::{Sink, write_all};
 use site_model::source::{ReadFault, Source, read_all};
@@ -64,7 +64,7 @@ pub const TOO_LONG: u8 = 10;
 pub const TOO_MANY_EVENTS: u8 = 14;
 
 /// What a filter prints of its input.
-fn report(alloc: Global, filter: &Filter<'_>, input: &[u8]) -> Result<Printed, ReplayError>
+fn report(alloc: Global, filter: &Filter<'_>, input: &[u8]) -> Result<Printed, PlayError>
     ensures sound { IfOk result (Reports (meant_filter filter.now) input.now) }
     ensures memory { IfErr result (λ e. (e ≡ NoMemory) ⊎ (is_replay (meant_filter filter.now) ≡ true)) }
     ensures full { IfErr result (λ e. e ≡ Full → HasNoRoomFor (meant_filter filter.now) input.now) }
@@ -73,11 +73,11 @@ fn report(alloc: Global, filter: &Filter<'_>, input: &[u8]) -> Result<Printed, R
     match filter {
         Filter::Cell(state) => match cell(alloc, input, *state) {
             Ok(printed) => Ok(printed),
-            Err(_) => Err(ReplayError::NoMemory),
+            Err(_) => Err(PlayError::NoMemory),
         },
         Filter::Check(path) => match check(alloc, input, path) {
             Ok(printed) => Ok(printed),
-            Err(_) => Err(ReplayError::NoMemory),
+            Err(_) => Err(PlayError::NoMemory),
         },
         Filter::Replay(options) => replayed(alloc, input, *options),
     }
@@ -230,9 +230,9 @@ fn filter<S: Source, K: Sink>(
     };
     match report(alloc, filter, bytes.as_slice()) {
         Ok(printed) => print(sink, &printed),
-        Err(ReplayError::NoMemory) => NO_MEMORY,
-        Err(ReplayError::Full) => FULL,
-        Err(ReplayError::TooManyEvents) => TOO_MANY_EVENTS,
+        Err(PlayError::NoMemory) => NO_MEMORY,
+        Err(PlayError::Full) => FULL,
+        Err(PlayError::TooManyEvents) => TOO_MANY_EVENTS,
     }
 }
 

@@ -78,7 +78,7 @@ fn is_whole(counts: &str) -> bool {
 /// Whether the journals of its nodes agree.
 fn is_agreed(alloc: Global, fault: &str) -> Result<bool, AllocError> {
     let script = script_of(alloc, fault)?;
-    Ok(agreed(alloc, script.as_bytes())?.is_some())
+    agreed(alloc, script.as_bytes())
 }
 
 /// How many of a node's calls may meet a fault so that the commit isn't split, and the journals agree; its words in front of the

@@ -1,61 +1,55 @@
 //! What the journals that the nodes of a schedule have at its end say together.
 
-use at_base::record::Record;
-use at_base::text::Text;
-use audit_at::log::Log;
-use audit_at::verdict::Verdict;
-use audit_at::verdicts::verdict_of;
-use replay_cmd::draws::draw_all;
-use replay_cmd::laws::what_is_read_is_replayable;
-use replay_cmd::replay::ended;
+use crate::top_call::{printed, text_of};
+use journal_page::hex_line::hex_line;
+use memory_net::host::Host;
+use net_plays::play_error::PlayError;
+use net_plays::replay::{Replayed, replay};
+use replay_cmd::laws::{what_is_read_is_replayable, what_is_read_is_within};
+use replay_cmd::options::Options;
 use schedules::line::ScheduleError;
 use schedules::reader::read_schedule;
-use settlement::run_error::RunError;
 use std::alloc::{AllocError, Global};
-use world_laws::world::{World, run_world};
 
-/// The world of a schedule. None where the text is none.
-fn world_of(alloc: Global, text: &[u8]) -> Result<Option<World>, AllocError> {
+/// The report of a schedule, and its nodes. None where the text is none.
+fn replayed(alloc: Global, text: &[u8]) -> Result<Option<Replayed>, AllocError> {
     what_is_read_is_replayable();
+    what_is_read_is_within();
     let schedule = match read_schedule(alloc, text) {
         Ok(schedule) => schedule,
         Err(ScheduleError::Bad(_)) => return Ok(None),
         Err(ScheduleError::OutOfMemory) => return Err(AllocError),
     };
-    let draws = draw_all(alloc, schedule.as_slice())?;
-    match ended(alloc, &schedule, draws.as_slice(), false) {
-        Ok(course) => {
-            let (count, events) = course.run();
-            let world = run_world(alloc, count, events)?;
-            Ok(Some(world))
-        }
-        Err(RunError::NoMemory) => Err(AllocError),
-        Err(RunError::TooManyEvents) => Ok(None),
-    }
-}
-
-/// A node's journal, under its base.
-fn log_of(alloc: Global, node: u8, records: &[Record]) -> Result<Log, AllocError> {
-    let base = Text::from_string(format!(in alloc; "http://n{node}.example")?);
-    let mut copy = Vec::new(alloc);
-    for entry in records {
-        copy.push(entry.clone()?)?;
-    }
-    Ok(Log::new(base, copy))
-}
-
-/// How many outcomes committed and how many aborted, where the journals of the schedule's nodes agree.
-pub fn agreed(alloc: Global, text: &[u8]) -> Result<Option<(u64, u64)>, AllocError> {
-    let Some(world) = world_of(alloc, text)? else {
-        return Ok(None);
+    let options = Options {
+        settle: false,
+        bytes: false,
     };
-    let mut logs = Vec::new(alloc);
-    for place in 0..world.count() {
+    match replay(alloc, &schedule, options) {
+        Ok(replayed) => Ok(Some(replayed)),
+        Err(PlayError::NoMemory) => Err(AllocError),
+        Err(_) => Ok(None),
+    }
+}
+
+/// The journals of these nodes, as an audit reads them.
+fn journals_of(alloc: Global, hosts: &[Host]) -> Result<String, AllocError> {
+    let mut journals = String::new(alloc);
+    for place in 0..hosts.len() {
+        let site = hosts[place].site();
         let node = place.saturating_add(1);
-        logs.push(log_of(alloc, node, world.journal(node))?)?;
+        let base = format!(in alloc; "http://n{node}.example")?;
+        let line = hex_line(alloc, base.as_str(), site.file(0), site.file(1))?;
+        journals.push_str(line.as_str())?;
     }
-    match verdict_of(alloc, logs.as_slice())? {
-        Verdict::Agreed { committed, aborted } => Ok(Some((committed, aborted))),
-        Verdict::Split { .. } | Verdict::Cycle { .. } => Ok(None),
-    }
+    Ok(journals)
+}
+
+/// Whether the journals of the schedule's nodes agree, as `audit` finds.
+pub fn agreed(alloc: Global, text: &[u8]) -> Result<bool, AllocError> {
+    let Some(replayed) = replayed(alloc, text)? else {
+        return Ok(false);
+    };
+    let journals = journals_of(alloc, replayed.net.hosts())?;
+    let verdict = printed(alloc, "audit", journals.as_str().as_bytes())?;
+    Ok(text_of(verdict.as_slice()).starts_with("agreed "))
 }

@@ -33,7 +33,7 @@ use Rattle.site_memory.specs.declared.machine.MemSite.{MemSite}
 use Rattle.site_model.specs.Counts.{Rose}
 use Rattle.site_model.specs.Site.{Counts as Numbers}
 use Rattle.site_model.specs.Told.{BreaksOff, Call, Files, Made, done}
-use Rattle.determined_nodes.specs.StartsAreDetermined.{HasBegun, StartsFrom}
+use Rattle.determined_nodes.specs.StartsAreDetermined.{HasBegun, HasLeft, IsTried, StartsFrom}
 use Rattle.determined_nodes.proofs.ArmedRows.{breaks_cut, cut, whole_cut}
 use Rattle.determined_nodes.proofs.ReadJournals.{ReadOf, StartRow, bodiless_live, read_of}
 use Rattle.determined_nodes.proofs.RenewedJournals.{same_calls}
@@ -60,14 +60,14 @@ pub record DidStart (since fails : ℕ) (result : Result Node StartFault) (old n
 pub into_live : (since fails : ℕ) (f : Files) (bare : Bool) (version : Version) (rs : List Record) (j : Journal) (file : ℕ) → StartsFrom since fails f → ReadOf f bare version rs j → IsLiveBehind version j file
     → file ≡ j.live
 into_live since fails f bare Two rs j file from was h = h
-into_live since fails f bare One rs j file (inl (qs, stands, least)) was h = absurd (let e : One ≡ Two = version_one f One Two rs qs was.stand stands in cc)
+into_live since fails f bare One rs j file (inl (qs, stands)) was h = absurd (let e : One ≡ Two = version_one f One Two rs qs was.stand stands in cc)
 into_live since fails f bare One rs j file (inr ((first, second), so)) was h =
     let (live, none) = bodiless_live f j.live was.bodies first second was.live in h (was.end ∙ ap (λ z. length (frames z)) none)
 
 -- and whether the other one's first gate is to be shut stays
 pub still_unshut : (since fails : ℕ) (f : Files) (bare : Bool) (version : Version) (rs : List Record) (j k : Journal) → StartsFrom since fails f → ReadOf f bare version rs j → IsJournalBehind version j k → k.unshut ≡ j.unshut
 still_unshut since fails f bare Two rs j k from was h = h.unshut
-still_unshut since fails f bare One rs j k (inl (qs, stands, least)) was h = absurd (let e : One ≡ Two = version_one f One Two rs qs was.stand stands in cc)
+still_unshut since fails f bare One rs j k (inl (qs, stands)) was h = absurd (let e : One ≡ Two = version_one f One Two rs qs was.stand stands in cc)
 still_unshut since fails f bare One rs j k (inr ((first, second), so)) was h =
     let (live, none) = bodiless_live f j.live was.bodies first second was.live in (h.0 (was.end ∙ ap (λ z. length (frames z)) none)).unshut
 
@@ -171,7 +171,7 @@ module _ (hold : LinksHold) (fail : CallsFailAsTold) (want : StartsFailForWant) 
     off row b more = breaks_cut since fails row more made (subst (BreaksOff row) (sym down_made) b) some armed
 
     gated : FilesOf f One [] → BreaksOff (syncs ++ shuts) C.made → StartsFrom since fails f → StartedSo since fails f made (Err faults.Disk)
-    gated empty b (inl (qs, stands, least)) = absurd (let e : One ≡ Two = version_one f One Two [] qs (record { texts = []; is = empty; are = tt }) stands in cc)
+    gated empty b (inl (qs, stands)) = absurd (let e : One ≡ Two = version_one f One Two [] qs (record { texts = []; is = empty; are = tt }) stands in cc)
     gated empty b (inr ((first, second), inl short)) =
         StartedSo.down refl (syncs ++ shuts) (Stage.at_gate refl (λ bare version rs j was. was.when.1 ((bodiless_live f j.live was.bodies first second was.live).0, short))) (off (syncs ++ shuts) b) some
     gated empty b (inr ((first, second), inr (third, fourth))) = StartedSo.down refl syncs (Stage.at_sync refl) (in_syncs since fails made third fourth (off (syncs ++ shuts) b) some) some
@@ -201,20 +201,29 @@ module _ (hold : LinksHold) (fail : CallsFailAsTold) (want : StartsFailForWant) 
       arming = kept_down;
     }
 
-  stands_so : StartsFrom since fails f → (rs : List Record) × StandSo rs f × (last_incarnation rs < 4294967295)
-  stands_so (inl (rs, stands, least)) = (rs, inl stands, least)
-  stands_so (inr ((first, second), so)) = ([], inr (refl, record { texts = []; is = empty; are = tt }), omega arith)
+  stands_so : StartsFrom since fails f → HasLeft f → (rs : List Record) × StandSo rs f × (last_incarnation rs < 4294967295)
+  stands_so (inl (rs, stands)) left = (rs, inl stands, left Two rs stands)
+  stands_so (inr ((first, second), so)) left = ([], inr (refl, record { texts = []; is = empty; are = tt }), omega arith)
     where
       empty : FilesOf f One []
       empty = record { live = 0; bodies = []; others = []; is = first; other = second; newer = omega arith; versions = refl; all = refl }
 
-  can : (result : Result Node StartFault) → HasBegun base fails result old new made → CanBegin old
-  can result H = let (rs, stands, least) = stands_so H.from in record { records = rs; stand = stands; least = least; room = H.room }
+  can : (result : Result Node StartFault) → HasBegun base fails result old new made → HasLeft f → CanBegin old
+  can result H left = let (rs, stands, least) = stands_so H.from left in record { records = rs; stand = stands; least = least; room = H.room }
+
+  -- where it was neither done nor failed by the disk, there was memory and incarnations were left
+  untried : (fault : StartFault) → (IsTried (Err fault) → ⊥) → HasBegun base fails (Err fault) old new made → HasLeft f × (◌≡◌ {A = Result Node StartFault} (Err fault) (Err faults.NoMemory) → ⊥)
+  untried fault none H = by H.ends
+    where
+      by : IsTried (Err fault) ⊎ (HasLeft f × (◌≡◌ {A = Result Node StartFault} (Err fault) (Err faults.NoMemory) → ⊥)) → HasLeft f × (◌≡◌ {A = Result Node StartFault} (Err fault) (Err faults.NoMemory) → ⊥)
+      by (inl tried) = absurd (none tried)
+      by (inr so) = so
 
   pub did_start : (result : Result Node StartFault) → HasBegun base fails result old new made → DidStart since fails result old new made
   did_start (Ok n) H = went_up n H
   did_start (Err faults.Disk) H = went_down H H.begins
-  did_start (Err faults.NoMemory) H = absurd (H.memory refl)
-  did_start (Err (faults.Bad file place)) H = absurd (want base (faults.Bad file place) old new (can (Err (faults.Bad file place)) H) H.begins)
-  did_start (Err faults.Spent) H = absurd (want base faults.Spent old new (can (Err faults.Spent) H) H.begins)
-  did_start (Err faults.Full) H = absurd (want base faults.Full old new (can (Err faults.Full) H) H.begins)
+  did_start (Err faults.NoMemory) H = absurd ((untried faults.NoMemory (λ tried. tried) H).1 refl)
+  did_start (Err (faults.Bad file place)) H =
+      absurd (want base (faults.Bad file place) old new (can (Err (faults.Bad file place)) H (untried (faults.Bad file place) (λ tried. tried) H).0) H.begins)
+  did_start (Err faults.Spent) H = absurd (want base faults.Spent old new (can (Err faults.Spent) H (untried faults.Spent (λ tried. tried) H).0) H.begins)
+  did_start (Err faults.Full) H = absurd (want base faults.Full old new (can (Err faults.Full) H (untried faults.Full (λ tried. tried) H).0) H.begins)

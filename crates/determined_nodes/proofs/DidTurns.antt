@@ -44,8 +44,8 @@ use Rattle.mirrored_nets.proofs.InputsHeard.{means_so, works_heard}
 use Rattle.mirrored_nets.proofs.InterimLines.{IsNoLine, disk_no_line, halts_no_line, line_is, whole_no_line}
 use Rattle.mirrored_nets.proofs.LeavingCalls.{AskedSteps, asked_steps}
 use Rattle.mirrored_nets.proofs.RewritingCalls.{renewed}
-use Rattle.mirrored_nets.proofs.StruckRows.{few_refused}
-use Rattle.mirrored_nets.proofs.StruckSteps.{steps_come}
+use Rattle.mirrored_nets.proofs.ArmedRows.{few_refused}
+use Rattle.mirrored_nets.proofs.ToldTurns.{steps_come}
 use Rattle.mirrored_nets.proofs.ToldMachines.{armed_row}
 use Rattle.mirrored_nets.proofs.WholeTurns.{DidWhole, beside_so, did_whole}
 use Rattle.determined_nodes.specs.TurnsAreDetermined.{HasTurned}

@@ -39,9 +39,9 @@ net_nodes L says quiet ticks one wait_or_not small bases nets closes images = re
   waits = λ count hosts clocks mails w i input lines bytes few M least brought waits.
       let for : WaitsFor lines bytes = waits_so says quiet ticks one wait_or_not small bases nets closes count few hosts clocks mails w M i least input lines bytes brought in
       one_waits for.waits lines (wait_or_not bytes true for.waits waits for.so) for.lines_are;
-  marked = λ last since fails old marked least.
+  marked = λ last since fails old marked.
       let (rs, stands, is) = marked.stands (read_in old) (images Keep (opening_in old.device) (calls_in old.device)) in
-      inl (rs, stands, omega (arith, least, is));
+      inl (rs, stands);
   fresh = λ since fails old new.
       empty_from since fails (read_in old) (λ i. reads (new.opening i) (new.calls i));
 }

@@ -9,9 +9,9 @@ use Rattle.call_readings.specs.declared.became.Became.TheVariants as becomes
 use Rattle.mirrored_nets.specs.Fates.{anew_of, disk_part}
 use Rattle.mirrored_nets.specs.Kept.{kept_at}
 use Rattle.mirrored_nets.specs.Took.{AnswersSo, EndsSo, IsKept, IsWhole, StopsBefore, StopsInStep}
-use Rattle.mirrored_nets.specs.TookAnew.{before_anew}
-use Rattle.mirrored_nets.specs.declared.judged.Armed.{Armed}
-use Rattle.mirrored_nets.specs.declared.judged.Armed.TheVariants as arms
+use Rattle.mirrored_nets.specs.AnewCalls.{before_anew}
+use Rattle.mirrored_nets.specs.declared.armed.Armed.{Armed}
+use Rattle.mirrored_nets.specs.declared.armed.Armed.TheVariants as arms
 use Rattle.node_at.specs.declared.fault.StartFault.{StartFault}
 use Rattle.node_at.specs.declared.fault.StartFault.TheVariants.{Disk}
 use Rattle.node_at.specs.declared.local.Locally.{Locally}
@@ -243,5 +243,5 @@ events_have_one_reading = record {
   reads = reads_one;
   turns = λ armed lines made r h k. reads_one armed lines made h.became k.became h.fates k.fates h.until k.until h.reads k.reads (turns_halt h.became k.became r h.ends k.ends);
   requests = λ armed made r h k. reads_one armed 0 made h.became k.became h.fates k.fates h.until k.until h.reads k.reads (requests_halt h.became k.became r h.ends k.ends);
-  starts = λ armed made r s old new here there h k alike. starts_one armed made r s h.became k.became h.landed k.landed h.stop k.stop h.are k.are alike;
+  starts = starts_one;
 }

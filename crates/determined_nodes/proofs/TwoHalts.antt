@@ -16,7 +16,7 @@ use Rattle.determined_nodes.specs.SameNodes.{IsSameBehind, IsSameJournal, IsSame
 use Rattle.mirrored_nets.specs.Fates.{refusals}
 use Rattle.determined_nodes.proofs.OneStep.{first_entry}
 use Rattle.determined_nodes.proofs.RecordCalls.{Fits, halts_only, unsure_is}
-use Rattle.mirrored_nets.proofs.StruckRows.{parts_armed}
+use Rattle.mirrored_nets.proofs.ArmedRows.{parts_armed}
 use Rattle.determined_nodes.proofs.TwoRuns.{DidSteps, fate, first_armed, fits_here}
 
 -- one that halted so

@@ -20,7 +20,7 @@ use Rattle.determined_nodes.proofs.ArmedRows.{called, tried_one}
 use Rattle.determined_nodes.proofs.OneStep.{FirstsSame, PlansArePlain, all_due_same, first_entry, firsts_same}
 use Rattle.determined_nodes.proofs.RecordCalls.{AsLanded, Fits, fate_disk, fates_one}
 use Rattle.mirrored_nets.proofs.CallRows.{failures_join}
-use Rattle.mirrored_nets.proofs.StruckRows.{parts_armed}
+use Rattle.mirrored_nets.proofs.ArmedRows.{parts_armed}
 use Rattle.determined_nodes.proofs.TriedOuts.{NoRecord, all_there, due_unrecorded, few_failures, leaving_calls, rows_few, rows_there}
 
 -- behind the first comes what is due, where the call goes on

@@ -16,7 +16,7 @@ use Rattle.determined_nodes.specs.SameNodes.{IsSameBehind, IsSameJournal, IsSame
 use Rattle.determined_nodes.proofs.ArmedRows.{called, tried_one}
 use Rattle.determined_nodes.proofs.OneStep.{PlansArePlain}
 use Rattle.determined_nodes.proofs.StepsBehind.{LeftBy, behind_same}
-use Rattle.mirrored_nets.proofs.StruckRows.{parts_armed}
+use Rattle.mirrored_nets.proofs.ArmedRows.{parts_armed}
 use Rattle.determined_nodes.proofs.TwoHalts.{HaltedAt, SameHalts, not_halted, same_halts, turned_back}
 use Rattle.determined_nodes.proofs.TwoRewritings.{Ended, ended_one}
 use Rattle.determined_nodes.proofs.TwoRuns.{DidSteps, StepsSame, entries, steps_same_two}

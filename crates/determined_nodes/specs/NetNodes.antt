@@ -1,12 +1,12 @@
 -- Nodes of a net that mirrors a world are such as these laws speak of.
-use Rattle.std.specs.Prelude.{ℕ, List, ◌≡◌, ◌≤◌, ◌<◌, Some, true, length}
+use Rattle.std.specs.Prelude.{ℕ, List, ◌≡◌, ◌≤◌, Some, true, length}
 use Rattle.at_model.specs.World.{Input, World, nth}
 use Rattle.http_post.specs.Conversations.{Waits}
 use Rattle.memory_net.specs.Mails.{Mail}
 use Rattle.memory_net.specs.declared.host.Host.{Host}
 use Rattle.mirrored_nets.specs.Goings.{IsBrought}
 use Rattle.mirrored_nets.specs.Mirrors.{Mirrors}
-use Rattle.mirrored_nets.specs.StruckStarts.{IsMarked}
+use Rattle.mirrored_nets.specs.LeftStarts.{IsMarked}
 use Rattle.mirrored_nets.specs.Took.{HasRoom}
 use Rattle.node_at.specs.declared.node.Node.{Node}
 use Rattle.site_memory.specs.Devices.{calls_in, opening_in}
@@ -24,6 +24,6 @@ pub record NetNodes : Type 0 where
   -- its client waits for the interim line only where one call is to try it
   pub waits : (count : ℕ) (hosts : List Host) (clocks : List ℕ) (mails : List Mail) (w : World) (i : ℕ) (input : Input) (lines : ℕ) (bytes : List ℕ)
       → count ≤ 8 → Mirrors count hosts clocks mails w → 1 ≤ i → IsBrought mails i input lines bytes → Waits bytes true → lines ≡ 1
-  -- one that has started before can start, where incarnations are left; and so can one on a new machine
-  pub marked : (last since fails : ℕ) (old : MemSite) → IsMarked last old → last < 4294967295 → StartsFrom since fails (reads (opening_in old.device) (calls_in old.device))
+  -- one that has started before can start, and so can one on a new machine
+  pub marked : (last since fails : ℕ) (old : MemSite) → IsMarked last old → StartsFrom since fails (reads (opening_in old.device) (calls_in old.device))
   pub fresh : (since fails : ℕ) (old : MemSite) → IsNew old → StartsFrom since fails (reads (opening_in old.device) (calls_in old.device))

@@ -14,7 +14,7 @@ use std::alloc::Global;
 use std::time::Clock;
 
 /// The machine of a node that serves. Each of its calls is that call of the machine inside. Where it has a log, a line is
-/// written there of each request with the status of its answer, of each post, of each call of the disk that failed, of a
+/// written there of each request with the status of its answer and the address from which it came, of each post, of each call of the disk that failed, of a
 /// journal that goes on in its other file, and of how many answers and posts were lost so far.
 #[derive(Drop)]
 pub struct LoggedSite<H: Site + Departing + Drop, K: Sink + Drop, C: Clock + Drop> {
@@ -106,7 +106,7 @@ impl<H: Site + Departing + Drop, K: Sink + Drop, C: Clock + Drop> Site for Logge
 
     fn send(&mut self, bytes: &[u8]) -> Result<(), Failed> {
         let sent = self.site.send(bytes);
-        self.notes.answer(bytes);
+        self.notes.answer(bytes, self.site.peer());
         sent
     }
 

@@ -4,6 +4,7 @@ use crate::heads::{push_request, status_of};
 use crate::log::Log;
 use site_model::sink::Sink;
 use std::alloc::{AllocError, Global};
+use std::net::SocketAddr;
 use std::time::Clock;
 
 /// The most bytes of a request that are looked at: a head, and an envelope's headers.
@@ -20,11 +21,12 @@ pub(crate) struct Notes<K: Sink + Drop, C: Clock + Drop> {
     file: Option<u8>,
 }
 
-/// A line of a request, and the status of its answer.
+/// A line of a request, the status of its answer, and the address from which it came.
 fn answered<K: Sink + Drop, C: Clock + Drop>(
     log: &Log<K, C>,
     asked: &[u8],
     status: &[u8],
+    peer: Option<SocketAddr>,
 ) -> Result<String, AllocError> {
     let mut line = log.begun()?;
     for digit in status {
@@ -32,6 +34,10 @@ fn answered<K: Sink + Drop, C: Clock + Drop>(
     }
     line.push(' ')?;
     push_request(&mut line, asked)?;
+    if let Some(peer) = peer {
+        let from = format!(in log.alloc(); " peer={peer}")?;
+        line.push_str(from.as_str())?;
+    }
     Ok(line)
 }
 
@@ -124,13 +130,13 @@ impl<K: Sink + Drop, C: Clock + Drop> Notes<K, C> {
         }
     }
 
-    /// These bytes were sent back.
-    pub(crate) fn answer(&mut self, bytes: &[u8]) {
+    /// These bytes were sent back to that address.
+    pub(crate) fn answer(&mut self, bytes: &[u8], peer: Option<SocketAddr>) {
         let Some(status) = status_of(bytes) else {
             return;
         };
         if let Some(log) = &mut self.log {
-            let line = answered(log, self.asked.as_slice(), status);
+            let line = answered(log, self.asked.as_slice(), status, peer);
             log.write(line);
         }
     }

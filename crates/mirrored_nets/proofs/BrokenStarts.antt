@@ -4,8 +4,6 @@ use Rattle.std.proofs.Common.{refl, sym, ap, subst, arith, ◌∙◌, inl, inr, 
 use Rattle.std.proofs.Math.Seq.{drop-append_seam}
 use Rattle.std.proofs.lemmas.Bool.{cases_lt, eq-eqb}
 use Rattle.std.proofs.lemmas.List.{length-append, take_all}
-use Rattle.armed_calls.specs.Faults.{record_stands, start_calls as all_calls}
-use Rattle.armed_calls.specs.declared.fault.Fault.TheVariants as faults
 use Rattle.journal_at.specs.Loads.{FailsAt, syncs}
 use Rattle.journal_at.specs.Loads.FailsAt.{sync, read, gate}
 use Rattle.journal_at.specs.declared.version.Version.TheVariants.{One, Two}
@@ -30,20 +28,30 @@ use Rattle.site_model.specs.Told.{BreaksOff, Call, Files, Made, done, failed}
 use Rattle.torn_appends.specs.TornAppends.{stands_behind}
 use Rattle.torn_appends.proofs.DiskRuns.{run_on}
 use Rattle.mirrored_nets.specs.Fates.{AllDone, refusals}
-use Rattle.mirrored_nets.specs.StruckStarts.{FailedStartsLeave, IsMarked, LeavesFailed, LeavesStart}
-use Rattle.mirrored_nets.specs.StruckTurns.{IsToldOf}
+use Rattle.mirrored_nets.specs.LeftStarts.{FailedStartsLeave, IsMarked, LeavesFailed, LeavesStart, stands_failed, start_calls as all_calls}
+use Rattle.mirrored_nets.specs.ToldMachines.{IsToldOf}
 use Rattle.mirrored_nets.specs.Took.{Adds, FellBack}
-use Rattle.mirrored_nets.specs.declared.judged.Armed.TheVariants as calls
+use Rattle.mirrored_nets.specs.declared.armed.Armed.TheVariants as calls
 use Rattle.mirrored_nets.proofs.CallRows.{all_refused_none}
 use Rattle.mirrored_nets.proofs.CutCalls.{take_behind}
 use Rattle.mirrored_nets.proofs.LeftFiles.{opening_kept}
 use Rattle.mirrored_nets.proofs.LeftStarts.{ground, plain, starts_leave, two}
 use Rattle.mirrored_nets.proofs.OneStanding.{version_one}
 use Rattle.mirrored_nets.proofs.StoodStarts.{Ground, Stood, early, is_standing, read_in, rose, stood}
-use Rattle.mirrored_nets.proofs.StruckHalts.{at_last}
-use Rattle.mirrored_nets.proofs.StruckKept.{fails_at}
-use Rattle.mirrored_nets.proofs.StruckRows.{parts_armed}
+use Rattle.mirrored_nets.proofs.FailedGates.{at_last}
+use Rattle.mirrored_nets.proofs.ArmedRows.{parts_armed}
 use Rattle.mirrored_nets.proofs.ToldMachines.{armed_row}
+
+-- a call that fails leaves what a stop before it would, of which all is kept
+fails_at : (k : ℕ) → 1 ≤ k → k ≤ 6 → stands_failed (k - 2) ≡ stands_behind (k - 1 - 2) Keep
+fails_at zero some few = absurd (omega (arith, some))
+fails_at (suc zero) some few = refl
+fails_at (suc (suc zero)) some few = refl
+fails_at (suc (suc (suc zero))) some few = refl
+fails_at (suc (suc (suc (suc zero)))) some few = refl
+fails_at (suc (suc (suc (suc (suc zero))))) some few = refl
+fails_at (suc (suc (suc (suc (suc (suc zero)))))) some few = refl
+fails_at (suc (suc (suc (suc (suc (suc (suc k))))))) some few = absurd (omega (arith, few))
 
 -- reads don't see a call that failed
 failed_seen : (which : Which) (d : Disk) (c : Call) → (after_call which d c false).seen ≡ d.seen
@@ -163,7 +171,7 @@ module _ (told_calls : CallsFailAsTold) (links : LinksHold) (apart : AreApart) (
     row = subst (λ z. AreArmed since (since + k) z) made_is (armed (ap (λ (z : Numbers). z.arming) C.counted.others))
 
     abbrev Left : Type 0
-    Left = Stood last (record_stands (k - 2) faults.Fail) (chosen_files Keep o (log ++ C.made))
+    Left = Stood last (stands_failed (k - 2)) (chosen_files Keep o (log ++ C.made))
 
     -- at one of the first two
     at_sync : BreaksOff syncs C.made → Left
@@ -173,7 +181,7 @@ module _ (told_calls : CallsFailAsTold) (links : LinksHold) (apart : AreApart) (
         let place = b.place in
         let early_k : k - 1 ≤ 1 = omega (arith, long, place) in
         let none : k - 2 ≡ 0 = omega (arith, long, place) in
-        subst (λ z. Stood last z (chosen_files Keep o (log ++ C.made))) (sym (ap (λ n. record_stands n faults.Fail) none))
+        subst (λ z. Stood last z (chosen_files Keep o (log ++ C.made))) (sym (ap (λ n. stands_failed n) none))
         (subst (Stood last false) (sym (broken_files k o log syncs C.made b)) (early images last old K (k - 1) Keep early_k))
 
     -- or behind reading
@@ -208,13 +216,13 @@ module _ (told_calls : CallsFailAsTold) (links : LinksHold) (apart : AreApart) (
           ((F.back.calls_are ∙ ap (take (since + length made)) grown ∙ take_behind (length made) since (since + length made) log C.made refl refl
           ∙ ap (λ z. log ++ z) (take_all (length made) C.made (omega (arith, long)))) i))
 
-      its : Stood last (record_stands (k - 2) faults.Fail) (read_in new)
-      its = subst (Stood last (record_stands (k - 2) faults.Fail)) (sym read_then) (left C.ends)
+      its : Stood last (stands_failed (k - 2)) (read_in new)
+      its = subst (Stood last (stands_failed (k - 2))) (sym read_then) (left C.ends)
 
     pub leaves : LeavesFailed k made old t
     leaves = record {
-      stands = λ new F. is_standing images last old K apart (record_stands (k - 2) faults.Fail) new (its new F);
-      rose = λ new before behind F was is. rose images last old K apart (record_stands (k - 2) faults.Fail) new (its new F) before behind was is;
+      stands = λ new F. is_standing images last old K apart (stands_failed (k - 2)) new (its new F);
+      rose = λ new before behind F was is. rose images last old K apart (stands_failed (k - 2)) new (its new F) before behind was is;
     }
 
 pub failed_starts_leave : CallsFailAsTold → LinksHold → AreApart → RecordsAreBodies → ChosenAreImages → FailedStartsLeave

@@ -5,7 +5,7 @@ use Rattle.at_model.specs.World.{Input, Deliver, Raw, Tick, nth}
 use Rattle.memory_net.specs.Mails.{Mail}
 use Rattle.node_events.specs.NodeEvents.{one_if}
 use Rattle.mirrored_nets.specs.Goings.{IsBrought, ms_of}
-use Rattle.mirrored_nets.specs.PossibleMoves.{FitsClock}
+use Rattle.mirrored_nets.specs.MayCome.{FitsClock}
 
 one_or_none : (waits : Bool) (lines : ℕ) → lines ≡ one_if waits → lines ≤ 1
 one_or_none true lines e = omega (arith, e)

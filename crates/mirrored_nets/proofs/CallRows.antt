@@ -129,17 +129,6 @@ all_refused_none (m ∷ ms) (h, more) =
     let k = all_refused_none ms more in
     omega (arith, e, k)
 
-count_left : (b t : Bool) → t ≡ true → one_failed b t ≡ 0
-count_left true t h = refl
-count_left false t h = ap (λ z. if z then 0 else 1) h
-
-pub all_failed_none : (ms : List Made) → AllDone ms → failures ms ≡ 0
-all_failed_none [] h = refl
-all_failed_none (m ∷ ms) (h, more) =
-    let e = count_left (is_disk m.call) m.done h in
-    let k = all_failed_none ms more in
-    omega (arith, e, k)
-
 -- of calls of which one failed not all were done
 pub not_all_done : (ms : List Made) → 1 ≤ refusals ms → all_done ms ≡ false
 not_all_done [] h = absurd (omega (arith, h))

@@ -19,7 +19,7 @@ use Rattle.site_memory.specs.Sites.{told_of}
 use Rattle.site_memory.specs.declared.machine.MemSite.{MemSite}
 use Rattle.site_model.specs.Told.{Files}
 use Rattle.mirrored_nets.specs.Mirrors.{IsOfTwo}
-use Rattle.mirrored_nets.specs.StruckStarts.{DownAreMarked}
+use Rattle.mirrored_nets.specs.LeftStarts.{DownAreMarked}
 
 pub down_are_marked : AreApart → ExamplesAreNodeBases → ServeAsNets told_of → CrashesAreMet told_of → DownAreMarked
 down_are_marked apart bases nets crashes count hosts clocks mails w i h x few M here down known begun = (last_incarnation (M.stands.holds i h here).place.records, record { stands = marked })

@@ -9,7 +9,7 @@ use Rattle.at_model.specs.World.{Node as Known, example_hosts}
 use Rattle.decision_log.specs.Folds.{AreRecords}
 use Rattle.deliverables.specs.Bases.{ExamplesAreNodeBases}
 use Rattle.deliveries.specs.ByteNets.{ServeAsNets}
-use Rattle.followed_files.proofs.RecordFrames.{end_is}
+use Rattle.mirrored_nets.proofs.RecordFrames.{end_is}
 use Rattle.journal_at.specs.Format.{Closed, frames}
 use Rattle.journal_at.specs.Scans.{records_in}
 use Rattle.journal_at.specs.declared.version.Version.{Version}

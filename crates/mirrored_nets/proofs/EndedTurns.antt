@@ -1,46 +1,19 @@
--- How turns end: what their machine was told stays, and where no gate is left shut behind steps that went to their end, they go to it.
-use Rattle.std.specs.Prelude.{ℕ, List, [], ◌∷◌, ◌≡◌, ◌⊎◌, true, false, if◌then◌else◌}
+-- What a machine was told of stands through a turn.
+use Rattle.std.specs.Prelude.{ℕ, List, [], ◌∷◌, ◌≡◌, true, false}
 use Rattle.std.proofs.Common.{refl, sym, ap, subst, ◌∙◌, inl, inr}
 use Rattle.memory_net.specs.Calls.{Turns}
 use Rattle.node_at.specs.Endings.{Ends}
-use Rattle.node_at.specs.ShrunkJournals.{Shrinks}
 use Rattle.node_at.specs.State.{State, seen}
 use Rattle.node_at.specs.Turns.{Turns as Steps}
 use Rattle.node_at.specs.declared.node.Node.{Node}
 use Rattle.node_at.specs.declared.role.Role.TheVariants.{All}
 use Rattle.node_at.specs.declared.shrink.Shrunk.{Shrunk}
-use Rattle.node_at.specs.declared.shrink.Shrunk.TheVariants as shrunks
 use Rattle.node_at.specs.declared.turn.Turned.{Turned}
 use Rattle.node_at.specs.declared.turn.Turned.TheVariants as turneds
 use Rattle.site_memory.specs.Sites.{link_of, told_of}
 use Rattle.site_memory.specs.declared.machine.MemSite.{MemSite}
-use Rattle.site_model.specs.Counts.{Rose}
 use Rattle.site_model.specs.Site.{Counts}
 use Rattle.site_model.specs.Told.{Link}
-use Rattle.mirrored_nets.specs.Took.{IsWhole}
-
--- behind its steps
-module _ (n m : State) (old new : MemSite) (runs : n.halted ≡ false) (sure : n.journal.unsure ≡ false) (gates : Rose old.tally.gate new.tally.gate → ⊥) where
-  shrinks_on : (shrunk : Shrunk) → Shrinks shrunk n m (told_of old) (told_of new) → m.halted ≡ false
-  shrinks_on shrunks.NotDue (inl (undue, same)) = ap (λ (z : State). z.halted) same ∙ runs
-  shrinks_on shrunks.NotDue (inr (inl a)) = ap (λ (z : State). z.halted) a.same ∙ runs
-  shrinks_on shrunks.NotDue (inr (inr a)) = by a.compacted.ground
-    where
-      by : (n.journal.unsure ≡ true) ⊎ Rose old.tally.gate new.tally.gate → m.halted ≡ false
-      by (inl unsure) = let e : true ≡ false = sym unsure ∙ sure in absurd cc
-      by (inr rose) = absurd (gates rose)
-  shrinks_on shrunks.Done a = ap (λ (z : State). z.halted) a.same ∙ runs
-  shrinks_on shrunks.Kept a = ap (λ (z : State). z.halted) a.same ∙ runs
-  shrinks_on shrunks.NoMemory (due, same) = ap (λ (z : State). z.halted) same ∙ runs
-
-  pub ends_whole : (first result : Turned) (shrunk : Shrunk) → IsWhole first → Ends told_of first result shrunk n m old new → IsWhole result
-  ends_whole (turneds.Served status) result shrunk whole e =
-      subst IsWhole (sym (e.answers ∙ ap (λ b. if b then turneds.Halted else turneds.Served status) (shrinks_on shrunk e.shrinks))) whole
-  ends_whole turneds.Ticked result shrunk whole e = subst IsWhole (sym (e.answers ∙ ap (λ b. if b then turneds.Halted else turneds.Ticked) (shrinks_on shrunk e.shrinks))) whole
-  ends_whole turneds.NoRoom result shrunk whole e = absurd whole
-  ends_whole turneds.Halted result shrunk whole e = absurd whole
-  ends_whole turneds.Closed result shrunk whole e = absurd whole
-  ends_whole turneds.LinkDown result shrunk whole e = absurd whole
 
 -- what the machine was told stays
 kept_by_steps : (first : Turned) (n node : State) (c behind : MemSite) → n.halted ≡ false → (first ≡ turneds.Closed → ⊥) → Steps first All n node (told_of c) (told_of behind)

@@ -5,7 +5,7 @@ use Rattle.std.proofs.lemmas.Bool.{false≢true, ltb-false, ltb-true}
 use Rattle.std.proofs.lemmas.Slice.Eq.{bytes_eq-Decides}
 use Rattle.at_model.specs.World.{example_base}
 use Rattle.memory_net.specs.Closed.{IsExampleBase}
-use Rattle.possible_events.specs.PossibleEvents.{IsBaseOfEight}
+use Rattle.mirrored_nets.specs.ExampleRequests.{IsBaseOfEight}
 
 pub is_one : (number : ℕ) (base : List ℕ) → 1 ≤ number → number < 9 → bytes_eq base (example_base number) ≡ true → IsExampleBase base
 is_one number base least most is = record { number = number; least = least; small = omega (arith, most); same = (bytes_eq-Decides base (example_base number)).0 is }

@@ -92,9 +92,6 @@ module _ (L : NetLaws) (count : ℕ) (few : count ≤ 8) (hosts : List Host) (cl
   pub is_up : hold.place.node ≡ Some (seen n)
   is_up = hold.node ∙ ap (option_map seen) up
 
-  pub serving : IsServing n
-  serving = subst (λ o. IfSome o IsServing) up hold.serving
-
   abbrev pub sites : ℕ → MemSite
   sites = placed_at i s M.stands.sites
 

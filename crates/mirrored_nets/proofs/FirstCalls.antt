@@ -4,7 +4,7 @@ use Rattle.std.proofs.Common.{refl, sym, ap, ◌∙◌}
 use Rattle.site_memory.specs.Entries.{mades}
 use Rattle.site_memory.specs.declared.entry.Entry.{Entry}
 use Rattle.site_model.specs.Told.{Made}
-use Rattle.mirrored_nets.specs.Fates.{AllDone, all_done, behind_disk, behind_sent, disk_part, is_disk, sent_part}
+use Rattle.mirrored_nets.specs.Fates.{behind_disk, behind_sent, disk_part, is_disk, sent_part}
 
 -- so many calls of the disk come first
 abbrev pub first_disk : List Made → ℕ
@@ -59,11 +59,3 @@ sent_of_first n calls e = sent_of_count (mades calls) ∙ ap (λ k. take k (made
 
 pub behind_first_sent : (n : ℕ) (calls : List Entry) → n ≡ first_sent (mades calls) → behind_sent (mades calls) ≡ drop n (mades calls)
 behind_first_sent n calls e = behind_sent_count (mades calls) ∙ ap (λ k. drop k (mades calls)) (sym e)
-
-pub all_are_done : (ms : List Made) → all_done ms ≡ true → AllDone ms
-all_are_done [] e = tt
-all_are_done (m ∷ ms) e = by m.done refl e (all_are_done ms)
-  where
-    by : (b : Bool) → m.done ≡ b → (if b then all_done ms else false) ≡ true → (all_done ms ≡ true → AllDone ms) → AllDone (m ∷ ms)
-    by true is e f = (is, f e)
-    by false is e f = absurd cc

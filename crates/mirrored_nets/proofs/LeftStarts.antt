@@ -29,7 +29,7 @@ use Rattle.site_memory.specs.declared.arm.Choice.TheVariants.{Keep}
 use Rattle.site_memory.specs.declared.machine.MemSite.{MemSite}
 use Rattle.site_model.specs.Told.{Files, Made, done, file_of}
 use Rattle.torn_appends.specs.TornAppends.{stands_behind}
-use Rattle.mirrored_nets.specs.StruckStarts.{IsMarked, LeavesStart, StartsLeave}
+use Rattle.mirrored_nets.specs.LeftStarts.{IsMarked, LeavesStart, StartsLeave}
 use Rattle.mirrored_nets.specs.Took.{FellBack}
 use Rattle.mirrored_nets.proofs.CutCalls.{take_behind}
 use Rattle.mirrored_nets.proofs.LeftFiles.{opening_kept}

@@ -11,7 +11,7 @@ use Rattle.site_memory.specs.declared.arm.Arm.TheVariants.{Idle, Stopped}
 use Rattle.site_memory.specs.declared.machine.MemSite.{MemSite}
 use Rattle.mirrored_nets.specs.Mirrors.{AllServe, MayServe}
 use Rattle.mirrored_nets.specs.NetSteps.{IsUnstarted}
-use Rattle.mirrored_nets.specs.Unarmed.{IsReady}
+use Rattle.mirrored_nets.specs.ToldMachines.{IsReady}
 
 abbrev Runs : Node → Type 0
 Runs n = n.halted ≡ false

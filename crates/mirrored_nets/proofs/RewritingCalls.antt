@@ -1,16 +1,12 @@
--- What became of a turn, by the call that came as the journal was written anew at its end.
-use Rattle.std.specs.Prelude.{ℕ, List, [], ◌∷◌, ◌++◌, ◌-◌, ◌≡◌, ◌≤◌, ◌⊎◌, Bool, true, false, Some, drop, if◌then◌else◌, length, map}
+-- Turns at whose end the journal was written anew.
+use Rattle.std.specs.Prelude.{ℕ, List, [], ◌∷◌, ◌++◌, ◌≡◌, ◌⊎◌, Some, drop, length, map}
 use Rattle.std.proofs.Common.{refl, sym, ap, subst, arith, ◌∙◌, inl, inr, true≢false}
 use Rattle.std.proofs.Math.Seq.{drop-append_seam}
 use Rattle.std.proofs.lemmas.List.{append-nil}
-use Rattle.armed_calls.specs.declared.fault.Fault.{Fault}
-use Rattle.armed_calls.specs.declared.fault.Fault.TheVariants as faults
 use Rattle.at_base.specs.declared.event.Event.TheVariants as events
 use Rattle.at_base.specs.declared.outs.Out.{Out}
 use Rattle.at_base.specs.declared.outs.Out.TheVariants as outs
 use Rattle.at_model.specs.Book.{Book}
-use Rattle.followed_events.specs.Meetings.{ends_anew}
-use Rattle.followed_files.specs.Follows.{choice_of}
 use Rattle.http_post.specs.OutBytes.{has_reason}
 use Rattle.journal_at.specs.StandingBodies.{Makes, lay, raise}
 use Rattle.journal_at.specs.declared.journal.Append.TheVariants as appends
@@ -29,46 +25,15 @@ use Rattle.node_at.specs.declared.turn.Turned.{Turned}
 use Rattle.node_at.specs.declared.turn.Turned.TheVariants as turneds
 use Rattle.site_memory.specs.Sites.{told_of}
 use Rattle.site_memory.specs.ToldCalls.{LinksHold}
-use Rattle.site_memory.specs.declared.arm.Choice.{Choice}
-use Rattle.site_memory.specs.declared.arm.Choice.TheVariants as choices
 use Rattle.site_memory.specs.declared.machine.MemSite.{MemSite}
 use Rattle.site_model.specs.Counts.{Rose}
 use Rattle.site_model.specs.Site.{Arming}
 use Rattle.site_model.specs.Told.{Made, done}
 use Rattle.mirrored_nets.specs.Fates.{anew_of, behind_sent}
-use Rattle.mirrored_nets.specs.Kept.{kept_at, writes_at}
 use Rattle.mirrored_nets.specs.Took.{IsWhole}
-use Rattle.mirrored_nets.specs.TookAnew.{ComesAnew, FailsAnew, StopsAnew}
-use Rattle.mirrored_nets.specs.declared.came.Came.{Came}
-use Rattle.mirrored_nets.specs.declared.came.Came.TheVariants as cames
+use Rattle.mirrored_nets.specs.AnewCalls.{FailsAnew}
 use Rattle.mirrored_nets.proofs.CallRows.{AreOnDisk, IsOnDisk, behind_first, disk_calls}
 use Rattle.mirrored_nets.proofs.CutCalls.{all_both}
-
-pub fails_or_stops : (came : Came) (f : Fault) (n call lines : ℕ) (made : List Made) → ComesAnew came f n call lines made → FailsAnew call (anew_of (drop lines made)) ⊎ StopsAnew lines made n call
-fails_or_stops cames.Stays faults.Fail n call lines made (fails, e) = inl fails
-fails_or_stops cames.Stays (faults.Stop left) n call lines made h = absurd h
-fails_or_stops cames.Halts faults.Fail n call lines made (fails, e) = inl fails
-fails_or_stops cames.Halts (faults.Stop left) n call lines made h = absurd h
-fails_or_stops (cames.Falls kept choice) faults.Fail n call lines made h = absurd h
-fails_or_stops (cames.Falls kept choice) (faults.Stop left) n call lines made (stops, e, k) = inr stops
-
--- whether its node goes down
-pub stays_up : (f : Fault) (n call lines : ℕ) (made : List Made) → ComesAnew cames.Stays f n call lines made → ends_anew f call ≡ false
-stays_up faults.Fail n call lines made (fails, e) = e
-stays_up (faults.Stop left) n call lines made h = absurd h
-
-pub halts_down : (f : Fault) (n call lines : ℕ) (made : List Made) → ComesAnew cames.Halts f n call lines made → ends_anew f call ≡ true
-halts_down faults.Fail n call lines made (fails, e) = e
-halts_down (faults.Stop left) n call lines made h = absurd h
-
-pub falls_down : (f : Fault) (n call lines : ℕ) (made : List Made) (kept : ℕ) (choice : Choice) → ComesAnew (cames.Falls kept choice) f n call lines made → ends_anew f call ≡ true
-falls_down faults.Fail n call lines made kept choice h = absurd h
-falls_down (faults.Stop left) n call lines made kept choice h = refl
-
--- It halted there, so one failed.
-pub halts_fails : (f : Fault) (n call lines : ℕ) (made : List Made) → ComesAnew cames.Halts f n call lines made → FailsAnew call (anew_of (drop lines made))
-halts_fails faults.Fail n call lines made (fails, e) = fails
-halts_fails (faults.Stop left) n call lines made h = absurd h
 
 -- a row of which the last is that
 some_last : (call : ℕ) (anew : List Made) → FailsAnew call anew → anew ≡ [] → ⊥
@@ -157,18 +122,3 @@ halted_rests turneds.NoRoom result shrunk n m old new halted e = absurd cc
 halted_rests turneds.Halted result shrunk n m old new halted e = e.site
 halted_rests turneds.Closed result shrunk n m old new halted e = absurd cc
 halted_rests turneds.LinkDown result shrunk n m old new halted e = absurd cc
-
--- no fewer are kept than up to the call before that one
-kept_least : (made : List Made) (k : ℕ) (choice : Choice) → k - 1 ≤ kept_at made k choice
-kept_least made k choices.Keep = omega arith
-kept_least made k choices.Drop = omega arith
-kept_least made k (choices.Fill byte) = by (writes_at (k - 1) made)
-  where
-    by : (b : Bool) → k - 1 ≤ (if b then k else k - 1)
-    by true = omega arith
-    by false = omega arith
-
--- It stopped at one of the calls by which the journal was written anew.
-pub falls_stops : (f : Fault) (n call lines : ℕ) (made : List Made) (kept : ℕ) (choice : Choice) → ComesAnew (cames.Falls kept choice) f n call lines made → StopsAnew lines made n call × (n - 1 ≤ kept)
-falls_stops faults.Fail n call lines made kept choice h = absurd h
-falls_stops (faults.Stop left) n call lines made kept choice (stops, e, k) = (stops, subst (λ z. n - 1 ≤ z) (sym k) (kept_least made n (choice_of left)))

@@ -12,7 +12,7 @@ use Rattle.node_events.specs.Fares.{AreFared}
 use Rattle.node_events.specs.NodeEvents.{all_made}
 use Rattle.site_model.specs.Told.{Made}
 use Rattle.mirrored_nets.specs.Fates.{AllDone, IsDone, anew_of, failures, fates_in, is_disk, refusals}
-use Rattle.mirrored_nets.specs.TookAnew.{FailsAnew}
+use Rattle.mirrored_nets.specs.AnewCalls.{FailsAnew}
 use Rattle.mirrored_nets.proofs.CallRows.{AreOnDisk, IsOnDisk, all_refused_none, one_refused, refusals_join, failures_join}
 use Rattle.mirrored_nets.proofs.CallsRead.{Read, anew_behind, failures_are, fates_of_calls, fates_read, refusals_are}
 use Rattle.mirrored_nets.proofs.ToldFares.{HasNone, HaveCalls}

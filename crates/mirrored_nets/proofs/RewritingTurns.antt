@@ -1,5 +1,5 @@
 -- A turn that went through all its steps, whatever became of writing its journal anew: its node stays up, or goes down behind them.
-use Rattle.std.specs.Prelude.{ℕ, List, [], ◌++◌, ◌+◌, ◌-◌, ◌≡◌, ◌≤◌, IfSome, Bool, Option, Some, None, length, map, option_map, take}
+use Rattle.std.specs.Prelude.{ℕ, List, [], ◌++◌, ◌-◌, ◌≡◌, ◌≤◌, IfSome, Bool, Option, Some, None, length, map, option_map, take}
 use Rattle.std.proofs.Common.{refl, sym, ap, subst, arith, ◌∙◌}
 use Rattle.std.proofs.lemmas.List.{append-nil, append_assoc}
 use Rattle.at_base.specs.declared.outs.Effect.{Effect}

@@ -6,7 +6,7 @@ use Rattle.std.proofs.lemmas.List.{append_assoc, append-nil, take_all}
 use Rattle.at_base.specs.declared.record.Record.{Record}
 use Rattle.at_model.specs.Recovery.{last_incarnation}
 use Rattle.decision_log.specs.Folds.{AreRecords}
-use Rattle.followed_files.proofs.RecordFrames.{end_is}
+use Rattle.mirrored_nets.proofs.RecordFrames.{end_is}
 use Rattle.journal_at.specs.Format.{AreListed, Closed, frames, head_of, records_of}
 use Rattle.journal_at.specs.Loads.{syncs}
 use Rattle.journal_at.specs.Pairs.{Holds}
@@ -28,7 +28,7 @@ use Rattle.site_model.specs.Told.{Call, Files, Made, done, file_of}
 use Rattle.torn_appends.specs.TornAppends.{gate_stands, stands_behind, with_body}
 use Rattle.torn_appends.proofs.DiskRuns.{beside_of, run_on}
 use Rattle.torn_appends.proofs.TornAppends.{goes, holds_then, row, same_generation, stays, stopped_live}
-use Rattle.mirrored_nets.specs.StruckStarts.{IsMarked, IsStanding}
+use Rattle.mirrored_nets.specs.LeftStarts.{IsMarked, IsStanding}
 use Rattle.mirrored_nets.specs.TookStart.{HasLast}
 use Rattle.mirrored_nets.proofs.LeftFiles.{head_more, may_follow, records_more, records_push}
 use Rattle.mirrored_nets.proofs.OneStanding.{found_one}

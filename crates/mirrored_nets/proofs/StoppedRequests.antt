@@ -16,7 +16,7 @@ use Rattle.mirrored_nets.proofs.CutRequests.{ask_fallen, asked_records, asked_si
 use Rattle.mirrored_nets.proofs.FallenHosts.{IsBefore, NetLaws, comes_back, in_world, up_there}
 use Rattle.mirrored_nets.proofs.CutCalls.{AreCallsOf, take_behind}
 use Rattle.mirrored_nets.proofs.LeftFiles.{untouched_files}
-use Rattle.mirrored_nets.proofs.StruckCuts.{is_fated, struck_cut}
+use Rattle.mirrored_nets.proofs.StoppedFates.{is_fated, struck_cut}
 use Rattle.mirrored_nets.proofs.UnbegunAsks.{broken_none, unbegun_ask}
 use Rattle.node_at.specs.Doings.{Doing}
 use Rattle.node_at.specs.State.{seen}

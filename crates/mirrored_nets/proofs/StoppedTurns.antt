@@ -13,7 +13,7 @@ use Rattle.mirrored_nets.specs.Took.{FellBack, IsWhole, StopsBefore, StopsInStep
 use Rattle.mirrored_nets.proofs.CutTurns.{CutAt, LeadsTo, at_sites, place_records, turn_fallen}
 use Rattle.mirrored_nets.proofs.FallenHosts.{IsBefore, NetLaws, comes_back, in_world, up_there}
 use Rattle.mirrored_nets.proofs.CutCalls.{AreCallsOf, take_behind}
-use Rattle.mirrored_nets.proofs.StruckCuts.{is_fated, struck_cut, unbegun_cut}
+use Rattle.mirrored_nets.proofs.StoppedFates.{is_fated, struck_cut, unbegun_cut}
 use Rattle.mirrored_nets.proofs.WholeTurns.{DidWhole}
 use Rattle.node_at.specs.Endings.{TakesTurn}
 use Rattle.node_at.specs.State.{State, seen}

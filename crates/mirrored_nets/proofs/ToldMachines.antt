@@ -1,6 +1,6 @@
 -- Machines that were told which of their calls is to fail, or that none is.
-use Rattle.std.specs.Prelude.{ℕ, List, ◌≡◌, ◌&&◌, true, false, Some, None, cond, drop, length, nat_le, option_map}
-use Rattle.std.proofs.Common.{refl, sym, ap, subst, arith, ◌∙◌}
+use Rattle.std.specs.Prelude.{ℕ, List, ◌≡◌, ◌≤◌, ◌<◌, ◌+◌, ◌-◌, ◌&&◌, true, false, Some, None, cond, drop, length, nat_le, option_map}
+use Rattle.std.proofs.Common.{zero, suc, refl, sym, ap, subst, arith, ◌∙◌}
 use Rattle.std.proofs.lemmas.Bool.{and_parts, false≢true}
 use Rattle.site_memory.specs.Armings.{are_armed, arming_of, call_number, is_armed, told_arming}
 use Rattle.site_memory.specs.Arms.{armed}
@@ -16,10 +16,8 @@ use Rattle.site_model.specs.Counts.{Rose}
 use Rattle.site_model.specs.Told.{Made}
 use Rattle.mirrored_nets.specs.Fates.{refusals}
 use Rattle.mirrored_nets.specs.Goings.{IsSet}
-use Rattle.mirrored_nets.specs.StruckTurns.{IsToldOf, fails_of}
 use Rattle.mirrored_nets.specs.Took.{Adds}
-use Rattle.mirrored_nets.specs.Unarmed.{IsReady, IsTold}
-use Rattle.mirrored_nets.specs.declared.judged.Armed.{Armed}
+use Rattle.mirrored_nets.specs.ToldMachines.{IsReady, IsTold}
 
 -- The calls since it was told which is to fail were done but for that one.
 pub armed_row : CallsFailAsTold → LinksHold → (old new : MemSite) (made : List Made) (fails : ℕ) → (told_of old).counts.arming ≡ Some (record { since = length (calls_in old.device); fails = fails })
@@ -34,10 +32,6 @@ isnt_stopped a made h =
     let (within, rest) = and_parts (nat_le a.since (length made)) (are_armed a.since a.fails (drop a.since made) && false) h in
     let (are, never) = and_parts (are_armed a.since a.fails (drop a.since made)) false rest in
     false≢true never
-
--- what a machine was told is something
-pub told_some : (armed : Armed) (s : MemSite) → IsToldOf armed s → IsTold s
-told_some armed s told = (record { since = length (calls_in s.device); fails = fails_of (length (calls_in s.device)) armed }, told)
 
 -- One that was told something hasn't stopped, and its links hold.
 pub told_ready : LinksHold → (s : MemSite) → IsTold s → IsReady s
@@ -86,3 +80,8 @@ gates_stand old new made adds none rose =
     let most = adds.raised in
     let below = adds.under in
     omega (arith, none, most, below, rose)
+
+-- the call that is to fail, by its number among all
+pub numbered : (since call : ℕ) → 1 ≤ call → call_number since call ≡ since + call
+numbered since zero some = absurd (omega (arith, some))
+numbered since (suc call) some = refl

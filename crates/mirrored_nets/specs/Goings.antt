@@ -22,7 +22,7 @@ use Rattle.mirrored_nets.specs.Answered.{HasEffects, IsAnswered, RefusesAlike}
 use Rattle.mirrored_nets.specs.Mirrors.{Mirrors}
 use Rattle.mirrored_nets.specs.Took.{TookRequest, TookTurn}
 use Rattle.mirrored_nets.specs.TookStart.{TookStart}
-use Rattle.mirrored_nets.specs.Unarmed.{IsReady, IsTold}
+use Rattle.mirrored_nets.specs.ToldMachines.{IsReady, IsTold}
 use Rattle.mirrored_nets.specs.declared.came.Came.TheVariants as cames
 
 -- the bytes that ask a node for what is due

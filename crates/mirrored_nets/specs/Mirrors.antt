@@ -14,7 +14,7 @@ use Rattle.node_worlds.specs.Nets.{IsWorldOf, Place}
 use Rattle.site_memory.specs.Sites.{told_of}
 use Rattle.site_memory.specs.declared.machine.MemSite.{MemSite}
 use Rattle.site_model.specs.Told.{Files}
-use Rattle.mirrored_nets.specs.Unarmed.{IsReady}
+use Rattle.mirrored_nets.specs.ToldMachines.{IsReady}
 
 -- The node of a host serves and hasn't halted, where it is up; and its machine can be told which call is to fail.
 pub record MayServe (h : Host) : Type 0 where

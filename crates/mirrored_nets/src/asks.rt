@@ -4,7 +4,7 @@ ghost use Rattle.std.specs.Prelude.{◌≡◌, IfOk, bytes_eq, codes, true};
 ghost use Rattle.at_model.specs.World.{example_base};
 ghost use Rattle.deliverables.specs.Deliverables.{IsDeliverableField};
 ghost use Rattle.memory_net.specs.Closed.{IsExampleBase, IsExampleRequest};
-ghost use Rattle.possible_events.specs.PossibleEvents.{IsBaseOfEight, IsOfEight};
+ghost use Rattle.mirrored_nets.specs.ExampleRequests.{IsBaseOfEight, IsOfEight};
 
 use at_base::event::Local;
 use std::alloc::{AllocError, Global};

@@ -1,16 +1,14 @@
-//! The calls that a node made in one event, and the fates that they had.
+//! The calls that a node made in one event, by parts.
 
-ghost use Rattle.std.specs.Prelude.{◌≡◌, ◌≤◌, [], drop, length, map, take, true};
-ghost use Rattle.fated_walks.specs.Fated.{StartsWith};
+ghost use Rattle.std.specs.Prelude.{◌≡◌, ◌≤◌, [], drop, length, take, true};
 ghost use Rattle.site_memory.specs.Entries.{call_of, mades};
 ghost use Rattle.site_model.specs.Told.Call.{Send};
 ghost use Rattle.http_post.specs.Conversations.{interim};
-ghost use Rattle.mirrored_nets.specs.Fates.{AllDone, all_done, anew_of, behind_disk, behind_sent, disk_part, failures, fates_in, is_disk, is_done, refusals, sent_part};
+ghost use Rattle.mirrored_nets.specs.Fates.{anew_of, behind_disk, behind_sent, disk_part, failures, is_disk, refusals, sent_part};
 ghost use Rattle.mirrored_nets.specs.Took.{IsTriedLine};
 
 use site_memory::entry::{Deed, Entry};
 use site_memory::machine::MemSite;
-use world_laws::event::Fates;
 
 /// The calls of a machine since it had made so many.
 pub fn since(site: &MemSite, before: usize) -> &[Entry]
@@ -40,7 +38,6 @@ fn is_disk(entry: &Entry) -> bool
 }
 
 /// How many calls of the disk come first.
-
 pub fn disk_calls(calls: &[Entry]) -> usize
     ensures disk { disk_part (mades calls.now) ≡ take result (mades calls.now) }
     ensures behind { behind_disk (mades calls.now) ≡ drop result (mades calls.now) }
@@ -55,7 +52,6 @@ pub fn disk_calls(calls: &[Entry]) -> usize
 }
 
 /// How many answers and posts come first.
-
 pub fn send_calls(calls: &[Entry]) -> usize
     ensures sent { sent_part (mades calls.now) ≡ take result (mades calls.now) }
     ensures behind { behind_sent (mades calls.now) ≡ drop result (mades calls.now) }
@@ -67,58 +63,6 @@ pub fn send_calls(calls: &[Entry]) -> usize
         }
     }
     calls.len()
-}
-
-/// Whether all of them were done.
-
-pub fn all_done(calls: &[Entry]) -> bool
-    ensures is { result ≡ all_done (mades calls.now) }
-    ensures all { result ≡ true → AllDone (mades calls.now) }
-{
-    for entry in calls {
-        if !entry.done {
-            return false;
-        }
-    }
-    true
-}
-
-/// Whether these calls had those of these fates that begin at that place.
-
-fn had(calls: &[Entry], fates: &Fates, from: usize) -> bool
-    requires { from ≤ 1 }
-    ensures had { result ≡ true → StartsWith (map is_done (mades calls.now)) (drop from fates.now) }
-    ensures exact { StartsWith (map is_done (mades calls.now)) (drop from fates.now) → result ≡ true }
-{
-    for place in 0..calls.len() {
-        if calls[place].done != fates.at(from + place) {
-            return false;
-        }
-    }
-    true
-}
-
-/// Whether a record's append, if one comes first, and the answers and posts behind it had the first of these fates.
-pub fn had_fates(calls: &[Entry], fates: &Fates) -> bool
-    ensures had { result ≡ true → StartsWith (fates_in (mades calls.now)) fates.now }
-    ensures exact { StartsWith (fates_in (mades calls.now)) fates.now → result ≡ true }
-{
-    let disk = disk_calls(calls);
-    let step = behind(calls, disk);
-    let sent = &step[..send_calls(step)];
-    if disk == 0 {
-        return had(sent, fates, 0);
-    }
-    all_done(&calls[..disk]) == fates.at(0) && had(sent, fates, 1)
-}
-
-/// How many fates they had.
-pub fn fates_count(calls: &[Entry]) -> usize
-    ensures { result ≡ length (fates_in (mades calls.now)) }
-{
-    let disk = disk_calls(calls);
-    let sent = send_calls(behind(calls, disk));
-    if disk == 0 { sent } else { sent + 1 }
 }
 
 /// The calls by which the journal was written anew.

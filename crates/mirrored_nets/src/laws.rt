@@ -2,10 +2,7 @@
 
 ghost use Rattle.mirrored_nets.specs.DueStarts.{DownCanBegin, StartsFailForWant};
 ghost use Rattle.mirrored_nets.specs.Goings.{NetsMirror};
-ghost use Rattle.mirrored_nets.specs.Rewritings.{RewritingsMirror, StruckRewritingsGo};
-ghost use Rattle.mirrored_nets.specs.StruckRequests.{StruckRequestsGo};
-ghost use Rattle.mirrored_nets.specs.StruckStarts.{DownAreMarked, FailedStartsLeave, StartsLeave};
-ghost use Rattle.mirrored_nets.specs.StruckTurns.{StruckTurnsGo};
+ghost use Rattle.mirrored_nets.specs.LeftStarts.{DownAreMarked, FailedStartsLeave, StartsLeave};
 
 use addressed_posts::laws::posts_are_addressed;
 use carried_meanings::laws::{bytes_mean_one_thing, posts_dont_wait, posts_say, ticks_ask};
@@ -14,8 +11,6 @@ use decision_log::shrink::shrinks_the_same;
 use deliverables::laws::{examples_are_node_bases, nodes_own_is_deliverable, steps_pass_on};
 use deliveries::laws::{calls_post, serve_as_nets};
 use endpoints::target::paths_name_targets;
-use fated_walks::laws::{calls_come, walks_by_fates};
-use followed_files::laws::{crashes_are_followed, rewritings_are_followed, steps_are_followed};
 use http_post::laws::bytes_wait_or_not;
 use memory_net::laws::{are_no_messages, examples_ask_so, hosts_tell_receivers, stays_closed};
 use model_laws::rules::{recovers_the_compacted, steps_keep_place};
@@ -33,114 +28,6 @@ use site_memory::machine::MemSite;
 use small_envelopes::laws::bare_are_in_limits;
 use torn_appends::laws::appends_torn;
 use world_laws::laws::changes_by_moves;
-
-/// A turn at which a call is armed, or none, goes as the event asks that is possible there.
-pub fn struck_turns()
-    ensures { StruckTurnsGo }
-{
-    posts_are_addressed();
-    bytes_mean_one_thing();
-    posts_say();
-    posts_dont_wait();
-    ticks_ask();
-    examples_are_node_bases();
-    calls_post::<MemSite>();
-    serve_as_nets::<MemSite>();
-    are_no_messages();
-    hosts_tell_receivers();
-    stays_closed::<MemSite>();
-    turns_are_events();
-    crashes_are_met::<MemSite>();
-    chosen_are_images();
-    bare_are_in_limits();
-    bytes_wait_or_not();
-    restarts_on_records::<MemSite>();
-    are_bodies();
-    grows_by_one();
-    shrinks_the_same();
-    steps_keep_place();
-    steps_pass_on();
-    steps_reply();
-    paths_name_targets();
-    nodes_own_is_deliverable();
-    calls_fail_as_told();
-    links_hold();
-    calls_come();
-}
-
-/// So does one at whose end the journal is written anew, where a call comes by which it is.
-pub fn struck_rewritings()
-    ensures { StruckRewritingsGo }
-{
-    posts_are_addressed();
-    bytes_mean_one_thing();
-    posts_say();
-    posts_dont_wait();
-    ticks_ask();
-    examples_are_node_bases();
-    calls_post::<MemSite>();
-    serve_as_nets::<MemSite>();
-    are_no_messages();
-    hosts_tell_receivers();
-    stays_closed::<MemSite>();
-    turns_are_events();
-    crashes_are_met::<MemSite>();
-    chosen_are_images();
-    bare_are_in_limits();
-    bytes_wait_or_not();
-    restarts_on_records::<MemSite>();
-    are_bodies();
-    grows_by_one();
-    shrinks_the_same();
-    steps_keep_place();
-    steps_pass_on();
-    steps_reply();
-    paths_name_targets();
-    nodes_own_is_deliverable();
-    calls_fail_as_told();
-    links_hold();
-    calls_come();
-    walks_by_fates();
-    crashes_are_followed();
-    steps_are_followed();
-    rewritings_are_followed();
-}
-
-/// So does a request.
-pub fn struck_requests()
-    ensures { StruckRequestsGo }
-{
-    posts_are_addressed();
-    bytes_mean_one_thing();
-    posts_say();
-    posts_dont_wait();
-    ticks_ask();
-    examples_are_node_bases();
-    calls_post::<MemSite>();
-    serve_as_nets::<MemSite>();
-    are_no_messages();
-    examples_ask_so();
-    hosts_tell_receivers();
-    stays_closed::<MemSite>();
-    requests_are_events();
-    turns_are_events();
-    crashes_are_met::<MemSite>();
-    chosen_are_images();
-    bare_are_in_limits();
-    bytes_wait_or_not();
-    restarts_on_records::<MemSite>();
-    are_bodies();
-    grows_by_one();
-    shrinks_the_same();
-    steps_keep_place();
-    steps_pass_on();
-    steps_reply();
-    paths_name_targets();
-    nodes_own_is_deliverable();
-    calls_fail_as_told();
-    links_hold();
-    calls_come();
-}
 
 /// The machine of a node that is down and has started before has files of version 2.
 pub fn down_are_marked()
@@ -224,41 +111,6 @@ pub fn nets_mirror()
     runs_on_machines::<MemSite>();
     restarts_on_records::<MemSite>();
     are_apart();
-    are_bodies();
-    grows_by_one();
-    shrinks_the_same();
-    steps_keep_place();
-    steps_pass_on();
-    steps_reply();
-    paths_name_targets();
-    nodes_own_is_deliverable();
-}
-
-/// And so does a turn at whose end the journal is written anew, and a fault comes at one of the calls for that.
-pub fn rewritings_mirror()
-    ensures { RewritingsMirror }
-{
-    posts_are_addressed();
-    bytes_mean_one_thing();
-    posts_say();
-    posts_dont_wait();
-    ticks_ask();
-    examples_are_node_bases();
-    calls_post::<MemSite>();
-    serve_as_nets::<MemSite>();
-    are_no_messages();
-    hosts_tell_receivers();
-    stays_closed::<MemSite>();
-    starts_are_events();
-    turns_answer_so();
-    effects_agree();
-    turns_are_events();
-    crashes_are_met::<MemSite>();
-    chosen_are_images();
-    links_hold();
-    bare_are_in_limits();
-    bytes_wait_or_not();
-    restarts_on_records::<MemSite>();
     are_bodies();
     grows_by_one();
     shrinks_the_same();

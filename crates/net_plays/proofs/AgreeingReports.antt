@@ -17,8 +17,7 @@ use Rattle.printed_agreement.specs.PlainPosts.{IsOfNode, IsPlain, IsPlainMessage
 use Rattle.printed_agreement.specs.RegisterAnswers.{EventsBring}
 use Rattle.printed_agreement.specs.PrintedAgreement.{AgreesInPrint}
 use Rattle.printed_agreement.specs.ReportLines.{Brings, Entry, Quiet, Sound, line_in}
-use Rattle.printed_agreement.proofs.Chunks.{Quietly, Reads, quietly, reads_both, reads_none, reads_one}
-use Rattle.printed_agreement.proofs.Courses.{Printed}
+use Rattle.printed_agreement.proofs.Chunks.{Printed, Quietly, Reads, quietly, reads_both, reads_none, reads_one}
 use Rattle.printed_agreement.proofs.Reports.{printed_agrees}
 use Rattle.printed_agreement.proofs.Soundness.{brings_same, sound_quiet}
 use Rattle.printed_agreement.proofs.Texts.{apart}

@@ -9,6 +9,13 @@ pub mod PrintedPlays
 pub mod TellingReports
 pub mod AgreeingReports
 pub mod PlayedRuns
+pub mod PostedMessages
+pub mod AskedRests
+pub mod EarlyNodes
+pub mod NextEvents
+pub mod MetAsks
+pub mod AskedLines
 pub mod ReportedPlays
 pub mod PlayedEvents
 pub mod StoppedPlays
+mod MadePlays

@@ -1,5 +1,6 @@
 -- What a play takes from what its nodes did, and its loops.
 use Rattle.std.proofs.Common.{ℕ, zero, suc, ◌+◌, ◌-◌, ◌≡◌, ◌≤◌, ◌<◌, ◌++◌, ◌∷◌, List, [], refl, drop, drop-cons, get_or, length, map, ap, subst, sym, arith, ◌∙◌}
+use Rattle.std.proofs.lemmas.List.{length-map}
 use Rattle.std.specs.Prelude.{Bool, Option, Some, None, is_some, option_map, slice_set}
 use Rattle.armed_calls.specs.declared.fault.Armed.{Armed as Known}
 use Rattle.armed_calls.specs.declared.fault.Fault.{Fault}
@@ -10,20 +11,40 @@ use Rattle.at_model.specs.Views.{up}
 use Rattle.at_model.specs.World.{World, WorldEvent, example_hosts, node_of, opening}
 use Rattle.mirrored_nets.specs.NetSteps.{IsUnstarted}
 use Rattle.mirrored_nets.specs.Seen.{Seen}
-use Rattle.mirrored_nets.specs.declared.judged.Armed.{Armed}
 use Rattle.replay_cmd.specs.Deliveries.{lowest}
 use Rattle.replay_cmd.specs.ReportOf.{nobody_armed}
 use Rattle.schedules.specs.declared.line.Line.{Line}
-use Rattle.world_laws.specs.Events.{event_of}
+use Rattle.world_laws.specs.Events.{event_of, ms_of}
 use Rattle.world_laws.specs.Runs.{Run, incarnation_at, world_of}
 use Rattle.world_laws.specs.declared.event.WorldEvent.{WorldEvent as Given}
+use Rattle.world_laws.proofs.RunNodes.{opening_fits}
+use Rattle.net_plays.specs.Asks.{CanAsk}
+use Rattle.net_plays.specs.Behind.{IsArmedBehind, IsBehind, PlaysGoOn}
 use Rattle.net_plays.specs.EventTexts.{event_lines}
 use Rattle.net_plays.specs.PlayedLines.{Delivers, DeliversWhere, Flushes, Takes, TakesAll}
-use Rattle.net_plays.specs.Plays.{AllHappen, Happens, IsOpening, IsPlayed, Play, armed_behind, fault_of, ups_from}
+use Rattle.net_plays.specs.Plays.{AllHappen, Happens, IsOpening, Play, armed_behind, fault_of, ups_from}
+use Rattle.net_plays.proofs.EarlyNodes.{opening_early}
 
-pub mirrored : (count n : ℕ) (w v : World) (armed : Armed) (asked : WorldEvent) (raw : List ℕ) (old new : Seen) (event : WorldEvent) (down : Bool) (calls : ℕ)
-    → n ≡ count → v ≡ world_behind down w event → Happened count w armed asked raw old new event down calls → MirrorsAt n new v
-mirrored count n w v armed asked raw old new event down calls many is h = subst (λ k. MirrorsAt k new v) (sym many) (subst (MirrorsAt count new) (sym is) h.mirrors)
+-- its nodes and its world behind what happened
+pub goes_on : PlaysGoOn
+    → (count n : ℕ) (w v : World) (es fs : List WorldEvent) (armed : Option Known) (asked : WorldEvent) (raw : List ℕ) (old new : Seen) (event : WorldEvent) (down : Bool) (calls : ℕ)
+    → n ≡ count → v ≡ world_behind down w event → fs ≡ es ++ events_by down event → ms_of event ≤ 4294967295 → IsBehind count old w es → IsArmedBehind armed es → CanAsk count w asked raw
+    → Happened count w (call_of armed) asked raw old new event down calls → IsBehind n new v fs
+goes_on law count n w v es fs armed asked raw old new event down calls many is events short b behind can h =
+    subst (λ k. IsBehind k new v fs) (sym many)
+    (subst (λ u. IsBehind count new u fs) (sym is)
+    (subst (λ l. IsBehind count new (world_behind down w event) l) (sym events) (law count old new w es armed asked event raw down calls short b behind can.of h)))
+
+-- what is known of a play of these fields
+
+pub can_inside : (p r : Play) (asked : WorldEvent) (raw : List ℕ) → p ≡ r → CanAsk r.count r.world asked raw → CanAsk p.count p.world asked raw
+can_inside p r asked raw same can = subst (λ (q : Play). CanAsk q.count q.world asked raw) (sym same) can
+
+pub behind_inside : (p r : Play) (armed : Option Known) → p ≡ r → IsArmedBehind armed r.events → IsArmedBehind armed p.events
+behind_inside p r armed same behind = subst (λ (q : Play). IsArmedBehind armed q.events) (sym same) behind
+
+pub few_events : (given now : List Given) → now ≡ given → length now ≤ 4294967295 → length (map event_of given) ≤ 4294967295
+few_events given now is few = omega (arith, ap length is, few, length-map given event_of)
 
 pub happens :
     (armed : Option Known) (asked : WorldEvent) (raw : List ℕ) (drawn : ℕ) (p r q : Play) (node : ℕ) (inc : Option ℕ) (was_up : Bool) (still : Option Known) (fault : Option Fault)
@@ -55,8 +76,12 @@ pub opened : (r : Run) (count : ℕ) → r ≡ record { count = count; events = 
 unfolding world_of
 opened r count h = ap world_of h
 
-pub mirrors_opened : (r : Run) (count : ℕ) (net : Seen) → r ≡ record { count = count; events = [] } → MirrorsAt count net (opening (example_hosts count)) → MirrorsAt r.count net (world_of r)
-mirrors_opened r count net h m = subst (λ n. MirrorsAt n net (world_of r)) (sym (ap (λ (x : Run). x.count) h)) (subst (MirrorsAt count net) (sym (opened r count h)) m)
+pub behind_opening : (r : Run) (count : ℕ) (net : Seen) → r ≡ record { count = count; events = [] } → count ≤ 8 → MirrorsAt count net (opening (example_hosts count))
+    → IsBehind r.count net (world_of r) (map event_of r.events)
+unfolding world_of
+behind_opening r count net h few m =
+    subst (λ (x : Run). IsBehind x.count net (world_of x) (map event_of x.events)) (sym h)
+    (record { run = refl; mirrors = m; fit = opening_fits count few; early = opening_early count })
 
 pub opens : (count : ℕ) (r : Run) (net : Seen) (ds : List Bool) (arms : List (Option Known)) (text : List ℕ)
     → r ≡ record { count = count; events = [] } → IsUnstarted count net → ds ≡ [] → arms ≡ nobody_armed → text ≡ []
@@ -73,11 +98,6 @@ opens count r net ds arms text h unstarted none nobody empty = record {
     text = empty i;
   };
 }
-
-pub is_played : (r : Run) (net : Seen) (ds : List Bool) (arms : List (Option Known)) (text : List ℕ) → MirrorsAt r.count net (world_of r)
-    → IsPlayed (record { count = r.count; net = net; world = world_of r; events = map event_of r.events; delivered = ds; armed = arms; text = text })
-unfolding world_of
-is_played r net ds arms text m = record { run = refl; mirrors = m }
 
 -- the loops, one time after another
 

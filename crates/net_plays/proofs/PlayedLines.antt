@@ -28,7 +28,7 @@ pub record Keeps (P : Play → Type 0) : Type 1 where
   pub marks : (k : ℕ) (p : Play) → P p → P (marked k p)
 
 module _ (P : Play → Type 0) (keeps : Keeps P) where
-  all_keep : (es : List WorldEvent) (p q : Play) → AllHappen es p q → P p → P q
+  pub all_keep : (es : List WorldEvent) (p q : Play) → AllHappen es p q → P p → P q
   all_keep [] p q is h = subst P (sym is) h
   all_keep (e ∷ es) p q (r, first, rest) h = all_keep es r q rest (keeps.happens None e [] 0 p r first h)
 
@@ -50,7 +50,7 @@ module _ (P : Play → Type 0) (keeps : Keeps P) where
   delivered_keep k None p q is h = subst P (sym is) (keeps.misses k p h)
   delivered_keep k (Some receiver) p q went h = goes_keep k receiver (marked k p) q went (keeps.marks k p h)
 
-  where_keep : (o : Option ℕ) (p q : Play) → DeliversWhere o p q → P p → P q
+  pub where_keep : (o : Option ℕ) (p q : Play) → DeliversWhere o p q → P p → P q
   where_keep None p q is h = subst P (sym is) h
   where_keep (Some k) p q delivered h = delivered_keep k (option_map receiver_in (nth k p.world.posted)) p q delivered h
 
@@ -58,7 +58,7 @@ module _ (P : Play → Type 0) (keeps : Keeps P) where
   flushes_keep zero p q is h = subst P (sym is) h
   flushes_keep (suc most) p q (r, first, rest) h = flushes_keep most r q rest (where_keep (lowest (length p.world.posted) 1 p.delivered) p r first h)
 
-  takes_keep : (line : Line) (p q : Play) → Takes line p q → P p → P q
+  pub takes_keep : (line : Line) (p q : Play) → Takes line p q → P p → P q
   takes_keep (lines.Nodes count) p q is h = subst P (sym is) h
   takes_keep (lines.Begin n coordinator ms) p q came h = comes_keep (begin_at n coordinator ms) p q came h
   takes_keep (lines.Interpose n activity coordinator) p q came h = comes_keep (interpose_at n activity coordinator) p q came h

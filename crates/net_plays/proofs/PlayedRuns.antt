@@ -14,12 +14,13 @@ use Rattle.model_laws.specs.Registrations.{EnlistsUnderOne}
 use Rattle.model_laws.specs.Settlement.{MayStart, Settles, Settling, all_also, all_up, also, deliver_next, deliveries_from, first_received, is_settled, most_deliveries, settle, settle_from, settle_round, settle_rounds, settled, ticks, up_if, ups, waiting}
 use Rattle.replay_cmd.specs.Laws.{IsSafe}
 use Rattle.schedules.specs.declared.line.Line.{Line}
+use Rattle.net_plays.specs.Asks.{IsBare}
 use Rattle.net_plays.specs.PlayedLines.{TakesAll}
 use Rattle.net_plays.specs.Plays.{AllHappen, Happens, IsBegun, IsOpening, Play, Rests}
 use Rattle.net_plays.proofs.PlayedLines.{Keeps, begun_keeps, lines_keep, rests_keep}
-use Rattle.net_plays.proofs.ReadEvents.{IsBare, bare_is_asked}
+use Rattle.net_plays.proofs.ReadEvents.{bare_is_asked}
 
-run_append : (w : World) (es : List WorldEvent) (e : WorldEvent) → run_on w (es ++ e ∷ []) ≡ world_step (run_on w es) e
+pub run_append : (w : World) (es : List WorldEvent) (e : WorldEvent) → run_on w (es ++ e ∷ []) ≡ world_step (run_on w es) e
 run_append w [] e = refl
 run_append w (x ∷ es) e = run_append (world_step w x) es e
 
@@ -28,7 +29,7 @@ pub record IsOfRun (count : ℕ) (p : Play) : Type 0 where
   pub many : p.count ≡ count
   pub run : p.world ≡ run_of (example_hosts count) p.events
 
-run_behind : (hosts : Hosts) (down : Bool) (w : World) (es : List WorldEvent) (e : WorldEvent) → w ≡ run_of hosts es → world_behind down w e ≡ run_of hosts (es ++ events_by down e)
+pub run_behind : (hosts : Hosts) (down : Bool) (w : World) (es : List WorldEvent) (e : WorldEvent) → w ≡ run_of hosts es → world_behind down w e ≡ run_of hosts (es ++ events_by down e)
 run_behind hosts false w es e h = ap (λ v. world_step v e) h ∙ sym (run_append (opening hosts) es e)
 run_behind hosts true w es e h =
     ap (λ v. world_step v (Crash (node_of e))) (ap (λ v. world_step v e) h ∙ sym (run_append (opening hosts) es e))
@@ -73,7 +74,7 @@ is_safe count p r apart agrees superior made = record {
 
 -- the events that settle a world have no fates and no stop
 
-abbrev AreBare : List WorldEvent → Type 0
+abbrev pub AreBare : List WorldEvent → Type 0
 AreBare es = AllByRecursion IsBare es
 
 bare_more : (es : List WorldEvent) (e : WorldEvent) → AreBare es → IsBare e → AreBare (es ++ e ∷ [])
@@ -114,7 +115,7 @@ unfolding settle_rounds
 bare_rounds zero most s h = h
 bare_rounds (suc n) most s h = bare_rounds n most (settle_round most s) (bare_round most s h)
 
-bare_settle : (w : World) → AreBare (settle w)
+pub bare_settle : (w : World) → AreBare (settle w)
 unfolding settle settled settle_from
 bare_settle w =
     bare_rounds 8 (most_deliveries (waiting (all_up w).world)) (all_up w) (bare_also (ups 1 w.nodes) (record { world = w; events = [] }) (bare_ups 1 w.nodes) tt)

@@ -13,8 +13,7 @@ use Rattle.model_laws.proofs.ReachedWorlds.{Closed, all_reached}
 use Rattle.printed_agreement.specs.PlainPosts.{IsPlain}
 use Rattle.printed_agreement.specs.RegisterAnswers.{EventsBring, IsBrought}
 use Rattle.printed_agreement.specs.ReportLines.{Quiet}
-use Rattle.printed_agreement.proofs.Chunks.{AreNext, Chunk, Quietly, end_quiet, event_chunk, forged_quiet, none_quiet, reads_both, reads_none, steps_event}
-use Rattle.printed_agreement.proofs.Courses.{Printed}
+use Rattle.printed_agreement.proofs.Chunks.{AreNext, Chunk, Printed, Quietly, end_quiet, event_chunk, forged_quiet, none_quiet, reads_both, reads_none, steps_event}
 use Rattle.printed_agreement.proofs.Soundness.{sound_both, sound_on}
 use Rattle.replay_cmd.specs.Lines.{forged_line, no_message_line}
 use Rattle.replay_cmd.specs.ReportOf.{ended}

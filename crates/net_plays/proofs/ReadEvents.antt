@@ -14,8 +14,8 @@ use Rattle.call_readings.specs.declared.became.Became.{Became}
 use Rattle.call_readings.specs.declared.became.Became.TheVariants.{Stays, Falls, Halts, FallsAnew, HaltsAnew}
 use Rattle.mirrored_nets.specs.Fates.{AllDone, all_done, behind_disk, disk_part, is_disk, is_done, record_fate, sent_of, sent_part}
 use Rattle.mirrored_nets.specs.Seen.{Seen}
-use Rattle.mirrored_nets.specs.declared.judged.Armed.{Armed}
-use Rattle.mirrored_nets.specs.declared.judged.Armed.TheVariants as arms
+use Rattle.mirrored_nets.specs.declared.armed.Armed.{Armed}
+use Rattle.mirrored_nets.specs.declared.armed.Armed.TheVariants as arms
 use Rattle.node_at.specs.declared.fault.StartFault.{StartFault}
 use Rattle.node_at.specs.declared.node.Node.{Node}
 use Rattle.site_memory.specs.ToldCalls.{AreArmed}
@@ -23,6 +23,7 @@ use Rattle.site_memory.specs.declared.machine.MemSite.{MemSite}
 use Rattle.site_model.specs.Told.{Made}
 use Rattle.std.specs.Prelude.{Result}
 use Rattle.world_laws.specs.Moves.{losses_of}
+use Rattle.net_plays.specs.Asks.{IsBare}
 use Rattle.net_plays.proofs.WholeTurns.{whole_loses}
 
 -- a turn that went down behind its steps met no stop in them
@@ -128,13 +129,6 @@ unarmed_start made result HaltsAnew landed stop h = absurd h
 told_none : (s : MemSite) (struck : Armed) → IsTold arms.No s struck → struck ≡ arms.No
 told_none s struck (inl (is, begun)) = is
 told_none s struck (inr (is, none)) = is
-
--- an event without fates and without a stop
-abbrev pub IsBare : WorldEvent → Type 0
-IsBare (Turn n input fates until) = (fates ≡ []) × (until ≡ None)
-IsBare (Ask n request fates until) = (fates ≡ []) × (until ≡ None)
-IsBare (Crash n) = Unit {0}
-IsBare (Up n landed stop) = (landed ≡ true) × (stop ≡ false)
 
 -- It is what was asked for, where no call is armed.
 pub record IsAsked (asked event : WorldEvent) (down : Bool) : Type 0 where

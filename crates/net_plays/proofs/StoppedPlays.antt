@@ -108,7 +108,7 @@ among_later : (why : Why) (es : List WorldEvent) (e : WorldEvent) (c q : Play) �
 among_later why es e c q first s =
     record { front = e ∷ s.front; next = s.next; rest = s.rest; all = ap (λ l. e ∷ l) s.all; last = s.last; before = (q, first, s.before); stops = s.stops }
 
-split : (all : List Given) (i : ℕ) (e d : Given) → i < length all → e ≡ get_or all i d → map event_of (drop i all) ≡ event_of e ∷ map event_of (drop (i + 1) all)
+pub split : (all : List Given) (i : ℕ) (e d : Given) → i < length all → e ≡ get_or all i d → map event_of (drop i all) ≡ event_of e ∷ map event_of (drop (i + 1) all)
 split all i e d within is =
     let next : suc i ≡ i + 1 = omega arith in
     ap (map event_of) (drop-cons all i d within ∙ (λ j. sym is j ∷ drop (next j) all))

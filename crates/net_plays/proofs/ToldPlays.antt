@@ -1,12 +1,9 @@
 -- What is printed of a play tells what happened in its world.
 use Rattle.std.proofs.Common.{ℕ, ◌≡◌, List, [], ◌∷◌, ◌++◌, length, drop, sym, subst, map}
-use Rattle.std.specs.Prelude.{Option, Bool, true, false, option_map}
+use Rattle.std.specs.Prelude.{Option, Bool, true, option_map}
 use Rattle.std.specs.List.{AllByRecursion}
 use Rattle.armed_calls.specs.declared.fault.Armed.{Armed}
 use Rattle.armed_calls.specs.declared.fault.Fault.{Fault}
-use Rattle.armed_calls.specs.declared.fault.Fault.TheVariants.{Stop}
-use Rattle.schedules.specs.declared.line.Leaves.TheVariants.{Keep}
-use Rattle.armed_calls.specs.declared.meeting.Meeting.TheVariants as meetings
 use Rattle.asked_nets.specs.ArmedCalls.{call_of}
 use Rattle.asked_nets.specs.Behind.{world_behind}
 use Rattle.asked_nets.specs.Happened.{Happened}
@@ -51,8 +48,7 @@ told_more w v n text line es adds before says all =
 says_event : (down : Bool) (f : Option Fault) (s : ℕ) (w : World) (e : WorldEvent)
     → AllByRecursion IsOnOneLine (drop (length w.posted) (world_behind down w e).posted)
     → Says (event_lines down f s w e) (map (happened_at (node_of e)) (effects_in (steps_of w e) ++ losses_by down w e))
-says_event false f s w e h = event_says meetings.Nothing f s w e h
-says_event true f s w e h = event_says (meetings.Anew (record { call = 1; fault = Stop Keep }) 1) f s w e h
+says_event down f s w e h = event_says f s w (world_behind down w e) e (losses_by down w e) h
 
 abbrev Holds : Play → Type 0
 Holds p = IsTold p.world p.text

@@ -1,6 +1,10 @@
 pub mod EventTexts
 pub mod MessageBytes
+pub mod Incarnations
+pub mod Asks
+pub mod Behind
 pub mod Plays
 pub mod PlayedLines
 pub mod NetReports
+pub mod MadePlays
 pub mod Stops

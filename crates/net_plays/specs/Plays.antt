@@ -1,9 +1,9 @@
 -- How far a schedule that is played over nodes has come, and what happens in it.
-use Rattle.std.specs.Prelude.{ℕ, List, [], ◌∷◌, ◌++◌, ◌+◌, ◌-◌, ◌≡◌, Option, Some, None, Bool, true, false, if◌then◌else◌, is_some, option_map, slice_set, suc, zero}
+use Rattle.std.specs.Prelude.{ℕ, List, [], ◌∷◌, ◌++◌, ◌+◌, ◌-◌, ◌≡◌, ◌≤◌, Option, Some, None, Bool, true, false, if◌then◌else◌, is_some, length, option_map, slice_set, suc, zero}
 use Rattle.armed_calls.specs.Faults.{still_armed}
 use Rattle.armed_calls.specs.declared.fault.Armed.{Armed}
 use Rattle.armed_calls.specs.declared.fault.Fault.{Fault}
-use Rattle.asked_nets.specs.Happened.{Happened, MirrorsAt}
+use Rattle.asked_nets.specs.Happened.{Happened}
 use Rattle.asked_nets.specs.Behind.{events_by, world_behind}
 use Rattle.at_model.specs.Views.{up}
 use Rattle.at_model.specs.World.{World, WorldEvent, Turn, Ask, Crash, Up, example_hosts, node_of, opening, run_of}
@@ -13,6 +13,7 @@ use Rattle.mirrored_nets.specs.Seen.{Seen}
 use Rattle.model_laws.specs.Settlement.{settle}
 use Rattle.replay_cmd.specs.ReportOf.{nobody_armed}
 use Rattle.world_laws.specs.Runs.{incarnation_at}
+use Rattle.net_plays.specs.Behind.{IsBehind}
 use Rattle.net_plays.specs.EventTexts.{event_lines}
 
 -- How many nodes there are, and what they are with their clocks and letters; the world that they mirror, and what happened to it, in order; for each
@@ -82,7 +83,11 @@ abbrev pub Rests : Bool → Play → Play → Type 0
 Rests false p q = q ≡ p
 Rests true p q = AllHappen (settle p.world) p q
 
--- Its world is that of the run of its events, and its nodes mirror that.
-pub record IsPlayed (p : Play) : Type 0 where
-  pub run : p.world ≡ run_of (example_hosts p.count) p.events
-  pub mirrors : MirrorsAt p.count p.net p.world
+-- Its nodes and its world are behind its events.
+abbrev pub IsPlayed : Play → Type 0
+IsPlayed p = IsBehind p.count p.net p.world p.events
+
+-- A play of few nodes in which something happened.
+pub record HasBegun (p : Play) : Type 0 where
+  pub few : p.count ≤ 8
+  pub some : 1 ≤ length p.events

@@ -2,15 +2,15 @@
 
 ghost use Rattle.std.specs.Prelude.{◌≡◌, ◌≤◌, ◌<◌, ◌++◌, ◌∷◌, [], IfErr, IfOk, OnOk, length, map};
 ghost use Rattle.asked_nets.specs.Behind.{events_by, world_behind};
-ghost use Rattle.at_model.specs.World.{Crash, node_of, world_step};
+ghost use Rattle.at_model.specs.World.{Crash, world_step};
 ghost use Rattle.net_plays.specs.EventTexts.{event_lines, losses_by};
 ghost use Rattle.settlement.specs.declared.run_error.RunError.TheVariants.{TooManyEvents};
 ghost use Rattle.world_laws.specs.Events.{event_of};
 ghost use Rattle.world_laws.specs.Moves.{losses_of, steps_of};
 ghost use Rattle.world_laws.specs.Runs.{world_of};
 
-use crate::event_lines::{behind_of, push_before, push_event};
 use armed_calls::fault::Fault;
+use replay_cmd::event_lines::{behind_of, push_before, push_event};
 use replay_cmd::lines::Lines;
 use settlement::run_error::RunError;
 use std::alloc::Global;

@@ -4,17 +4,21 @@ ghost use Rattle.std.specs.Prelude.{◌≡◌, IfErr, IfOk};
 ghost use Rattle.armed_calls.specs.declared.fault.Fault.TheVariants as faults;
 ghost use Rattle.at_model.specs.Views.{request, tick_at, up};
 ghost use Rattle.net_plays.specs.PlayedLines.{Brings, Comes, Takes, TakesAll};
+ghost use Rattle.net_plays.specs.Plays.{HasBegun};
 ghost use Rattle.net_plays.specs.Stops.{StopsComing, StopsIn, StopsInLines, StopsInjection};
 ghost use Rattle.net_plays.specs.Stops.Why.{HasMany, IsFull};
 ghost use Rattle.net_plays.specs.declared.play_error.PlayError.TheVariants.{Full, TooManyEvents};
+ghost use Rattle.mirrored_nets.specs.ExampleRequests.{IsOfEight};
+ghost use Rattle.replay_cmd.specs.ScheduleLines.{AreWithin, IsWithin};
+ghost use Rattle.schedules.specs.LineTexts.{IsNode};
 ghost use Rattle.schedules.specs.Values.{bytes_in};
 
-use crate::asked_events::{asking, coming_up, turn};
 use crate::play::Play;
 use crate::play_error::PlayError;
 use armed_calls::fault::{Armed, Fault};
 use at_base::event::Local;
 use raw_requests::{Drawn, draw};
+use replay_cmd::asked_events::{asking, coming_up, turn};
 use replay_cmd::requests::{begin, interpose, work};
 use schedules::line::{Leaves, Line};
 use schedules::values::bytes_in;
@@ -42,7 +46,11 @@ fn failure(call: u32) -> Armed
 }
 
 /// A node is asked by its own program.
+#[tactic(auto, using(crate::proofs::AskedLines::ask_can))]
 fn ask(play: Play, alloc: Global, node: u8, local: Local) -> Result<Play, PlayError>
+    requires there { IsNode play.count node }
+    requires eight { IsOfEight local }
+    requires begun { HasBegun play }
     ensures done { IfOk result (Comes (request node local) play) }
     ensures full { IfErr result (λ e. e ≡ Full → StopsComing IsFull (request node local) play) }
     ensures many { IfErr result (λ e. e ≡ TooManyEvents → StopsComing HasMany (request node local) play) }
@@ -51,7 +59,10 @@ fn ask(play: Play, alloc: Global, node: u8, local: Local) -> Result<Play, PlayEr
 }
 
 /// So many milliseconds go by at a node.
+#[tactic(auto, using(crate::proofs::AskedLines::tick_can))]
 fn tick(play: Play, alloc: Global, node: u8, ms: u32) -> Result<Play, PlayError>
+    requires there { IsNode play.count node }
+    requires begun { HasBegun play }
     ensures done { IfOk result (Comes (tick_at node ms) play) }
     ensures full { IfErr result (λ e. e ≡ Full → StopsComing IsFull (tick_at node ms) play) }
     ensures many { IfErr result (λ e. e ≡ TooManyEvents → StopsComing HasMany (tick_at node ms) play) }
@@ -60,7 +71,10 @@ fn tick(play: Play, alloc: Global, node: u8, ms: u32) -> Result<Play, PlayError>
 }
 
 /// A node comes up, where it is down.
+#[tactic(auto, using(crate::proofs::AskedLines::up_here))]
 fn come_up(play: Play, alloc: Global, node: u8) -> Result<Play, PlayError>
+    requires there { IsNode play.count node }
+    requires begun { HasBegun play }
     ensures done { IfOk result (Comes (up node) play) }
     ensures full { IfErr result (λ e. e ≡ Full → StopsComing IsFull (up node) play) }
     ensures many { IfErr result (λ e. e ≡ TooManyEvents → StopsComing HasMany (up node) play) }
@@ -69,8 +83,10 @@ fn come_up(play: Play, alloc: Global, node: u8) -> Result<Play, PlayError>
 }
 
 /// Bytes come to a node.
-#[tactic(auto, using(crate::proofs::StoppedPlays::stops_injection))]
+#[tactic(auto, using(crate::proofs::StoppedPlays::stops_injection, crate::proofs::AskedLines::raw_can, crate::proofs::AskedLines::begun_behind))]
 fn bring(play: Play, alloc: Global, bytes: &[u8], node: u8) -> Result<Play, PlayError>
+    requires there { IsNode play.count node }
+    requires begun { HasBegun play }
     ensures done { IfOk result (Brings bytes.now node play) }
     ensures full { IfErr result (λ e. e ≡ Full → StopsInjection IsFull bytes.now node play) }
     ensures many { IfErr result (λ e. e ≡ TooManyEvents → StopsInjection HasMany bytes.now node play) }
@@ -88,6 +104,8 @@ fn bring(play: Play, alloc: Global, bytes: &[u8], node: u8) -> Result<Play, Play
 }
 
 fn inject(play: Play, alloc: Global, digits: &str, node: u8) -> Result<Play, PlayError>
+    requires there { IsNode play.count node }
+    requires begun { HasBegun play }
     ensures done { IfOk result (Brings (bytes_in digits.now) node play) }
     ensures full { IfErr result (λ e. e ≡ Full → StopsInjection IsFull (bytes_in digits.now) node play) }
     ensures many { IfErr result (λ e. e ≡ TooManyEvents → StopsInjection HasMany (bytes_in digits.now) node play) }
@@ -96,7 +114,10 @@ fn inject(play: Play, alloc: Global, digits: &str, node: u8) -> Result<Play, Pla
     bring(play, alloc, bytes.as_slice(), node)
 }
 
+#[tactic(auto, using(crate::proofs::AskedLines::begin_names, crate::proofs::AskedLines::interpose_names, crate::proofs::AskedLines::work_names, crate::proofs::AskedLines::crash_can))]
 fn take_line(play: Play, alloc: Global, line: &Line) -> Result<Play, PlayError>
+    requires within { IsWithin play.count line.now }
+    requires begun { HasBegun play }
     ensures done { IfOk result (Takes line.now play) }
     ensures full { IfErr result (λ e. e ≡ Full → StopsIn IsFull line.now play) }
     ensures many { IfErr result (λ e. e ≡ TooManyEvents → StopsIn HasMany line.now play) }
@@ -158,6 +179,8 @@ fn take_line(play: Play, alloc: Global, line: &Line) -> Result<Play, PlayError>
 
 /// Takes each line.
 pub(crate) fn take_lines(play: Play, alloc: Global, lines: &[Line]) -> Result<Play, PlayError>
+    requires within { AreWithin play.count lines.now }
+    requires begun { HasBegun play }
     ensures done { IfOk result (TakesAll lines.now play) }
     ensures full { IfErr result (λ e. e ≡ Full → StopsInLines IsFull lines.now play) }
     ensures many { IfErr result (λ e. e ≡ TooManyEvents → StopsInLines HasMany lines.now play) }

@@ -3,6 +3,8 @@
 ghost use Rattle.std.specs.Prelude.{◌≡◌, ◌≤◌, ◌<◌, ◌+◌, ◌++◌, IfErr, IfOk, Some, length, map, option_map};
 ghost use Rattle.at_model.specs.World.{nth};
 ghost use Rattle.model_laws.specs.Settlement.{settle};
+ghost use Rattle.net_plays.specs.Asks.{CanAsk};
+ghost use Rattle.net_plays.specs.Behind.{IsArmedBehind};
 ghost use Rattle.net_plays.specs.PlayedLines.{marked, printed, with_armed};
 ghost use Rattle.net_plays.specs.Stops.{Stops};
 ghost use Rattle.net_plays.specs.Stops.Why.{IsFull, HasMany};
@@ -14,6 +16,7 @@ ghost use Rattle.replay_cmd.specs.ReportOf.{armed_at, ended, receiver_in};
 ghost use Rattle.world_laws.specs.Events.{event_of};
 
 use crate::happenings::happen;
+use crate::mirroring::{asks_are_met, plays_go_on};
 use crate::play_error::PlayError;
 use armed_calls::fault::{Armed, Fault};
 use asked_nets::fault::Fault as Unmet;
@@ -52,7 +55,7 @@ impl Drop for Play {
 
 impl Model for Play {
     ghost use Rattle.std.specs.Prelude.{map};
-    ghost use Rattle.asked_nets.specs.Happened.{MirrorsAt};
+    ghost use Rattle.net_plays.specs.Behind.{IsBehind};
     ghost use Rattle.net_plays.specs.Plays.{Play as Known};
     ghost use Rattle.world_laws.specs.Events.{event_of};
     ghost use Rattle.world_laws.specs.Runs.{world_of};
@@ -61,7 +64,7 @@ impl Model for Play {
 
     ghost view = { λ p. record { count = p.world.count; net = p.net; world = world_of p.world; events = map event_of p.world.events; delivered = p.delivered; armed = p.armed; text = p.lines } };
 
-    ghost invariant = { λ p. MirrorsAt p.world.count p.net (world_of p.world) };
+    ghost invariant = { λ p. IsBehind p.world.count p.net (world_of p.world) (map event_of p.world.events) };
 }
 
 /// What is armed at a node behind what was asked for there, for which its machine made so many calls.
@@ -113,10 +116,14 @@ impl Play {
         raw: &[u8],
         drawn: u16,
     ) -> Result<Play, PlayError>
+        requires can { CanAsk self.count self.world (event_of asked.now) raw.now }
+        requires behind { IsArmedBehind armed self.events }
         ensures done { IfOk result (Happens armed (event_of asked.now) raw.now drawn self) }
         ensures full { IfErr result (λ e. e ≡ Full → Stops IsFull armed (event_of asked.now) raw.now self) }
         ensures many { IfErr result (λ e. e ≡ TooManyEvents → Stops HasMany armed (event_of asked.now) raw.now self) }
     {
+        asks_are_met();
+        plays_go_on();
         let Play {
             net,
             world,
@@ -125,6 +132,8 @@ impl Play {
             mut lines,
         } = self;
         let _count = world.count();
+        let _events = world.events();
+        let _asked = asked.ms();
         let node = asked.node();
         let was_up = world.incarnation(node).is_some();
         let Taken {
@@ -136,8 +145,9 @@ impl Play {
             Ok(taken) => taken,
             Err(Unmet::NoMemory) => return Err(PlayError::NoMemory),
             Err(Unmet::Full) => return Err(PlayError::Full),
-            Err(Unmet::Apart) => return Err(PlayError::Apart),
+            Err(Unmet::Apart) => unreachable!(),
         };
+        let _happened = event.ms();
         arms.set(node, armed_behind(armed, was_up, calls, asked));
         let world = match happen(
             alloc,

@@ -11,8 +11,6 @@ pub enum PlayError {
     TooManyEvents,
     /// The journal of a node has no room for another record.
     Full,
-    /// What was asked for can't be done to the nodes.
-    Apart,
 }
 
 impl From<AllocError> for PlayError {

@@ -9,6 +9,7 @@ ghost use Rattle.net_plays.specs.Stops.Why.{HasMany, IsFull};
 ghost use Rattle.net_plays.specs.declared.play_error.PlayError.TheVariants.{Full, TooManyEvents};
 ghost use Rattle.replay_cmd.specs.Laws.{IsReplayable};
 ghost use Rattle.replay_cmd.specs.ReportOf.{ended, nodes_of};
+ghost use Rattle.replay_cmd.specs.ScheduleLines.{AreWithin};
 
 use crate::lines::take_lines;
 use crate::message_bytes::shown;
@@ -46,9 +47,10 @@ fn nodes_of(lines: &[Line]) -> u8
 }
 
 /// The play of a schedule.
-#[tactic(auto, using(crate::proofs::ReportedPlays::is_play, crate::proofs::StoppedPlays::none_begun, crate::proofs::StoppedPlays::none_taken, crate::proofs::StoppedPlays::none_rested))]
+#[tactic(auto, using(crate::proofs::ReportedPlays::is_play, crate::proofs::StoppedPlays::none_begun, crate::proofs::StoppedPlays::none_taken, crate::proofs::StoppedPlays::none_rested, crate::proofs::AskedLines::lines_within, crate::proofs::AskedLines::lines_begun))]
 fn played(alloc: Global, schedule: &Schedule, settle: bool) -> Result<Play, PlayError>
-    requires { IsReplayable schedule.now }
+    requires replayable { IsReplayable schedule.now }
+    requires within { AreWithin (nodes_of schedule.now) schedule.now }
     ensures done { IfOk result (IsPlayOf settle schedule.now) }
     ensures full { IfErr result (λ e. e ≡ Full → HasNoReport IsFull settle schedule.now) }
     ensures many { IfErr result (λ e. e ≡ TooManyEvents → HasNoReport HasMany settle schedule.now) }
@@ -88,7 +90,8 @@ fn print(alloc: Global, play: Play, bytes: bool) -> Result<Replayed, AllocError>
 /// With `settle` the events that bring the world to rest are asked for behind the last line, and are reported as others are. With `bytes` the bytes by
 /// which each message was posted stand behind its line, in hexadecimal.
 pub fn replay(alloc: Global, schedule: &Schedule, options: Options) -> Result<Replayed, PlayError>
-    requires { IsReplayable schedule.now }
+    requires replayable { IsReplayable schedule.now }
+    requires within { AreWithin (nodes_of schedule.now) schedule.now }
     ensures report { IfOk result (λ r. IsNetReport options schedule.now r.lines r.net) }
     ensures full { IfErr result (λ e. e ≡ Full → HasNoReport IsFull options.settle schedule.now) }
     ensures many { IfErr result (λ e. e ≡ TooManyEvents → HasNoReport HasMany options.settle schedule.now) }

@@ -1,7 +1,7 @@
 -- An answer to a Register is posted where that Register is delivered, and names a seat of the transaction that it asked.
-use Rattle.std.specs.Prelude.{ℕ, List, [], ◌∷◌, ◌++◌, Option, Some, None, Bool, true, false, nat_eq, if◌then◌else◌, option_map, unwrap_or, ◌+◌, ◌-◌, ◌≡◌, ◌<◌, refl}
+use Rattle.std.specs.Prelude.{ℕ, List, [], ◌∷◌, ◌++◌, Option, Some, None, Bool, true, false, nat_eq, if◌then◌else◌, option_map, unwrap_or, ◌+◌, ◌-◌, ◌≡◌, refl}
 use Rattle.std.specs.List.{AllByRecursion}
-use Rattle.std.proofs.Common.{inl, inr, sym, subst, ap, ◌∙◌}
+use Rattle.std.proofs.Common.{sym, subst, ap, ◌∙◌}
 use Rattle.std.proofs.lemmas.List.{append_assoc, append-nil}
 use Rattle.at_base.specs.declared.epr.Epr.{Epr}
 use Rattle.at_base.specs.declared.event.Arrived.{Arrived}
@@ -11,7 +11,7 @@ use Rattle.at_base.specs.declared.message.Message.TheVariants as messages
 use Rattle.at_base.specs.declared.outs.Post.{Post}
 use Rattle.at_base.specs.declared.outs.Out.TheVariants as outs
 use Rattle.at_base.specs.declared.target.Target.TheVariants as targets
-use Rattle.at_model.specs.Book.{Book, last_counter}
+use Rattle.at_model.specs.Book.{Book}
 use Rattle.at_model.specs.Recovery.{last_incarnation}
 use Rattle.at_model.specs.Seats.{seat_target}
 use Rattle.at_model.specs.Step.{plan, step}
@@ -19,20 +19,18 @@ use Rattle.at_model.specs.World.{Node, Posted, World, WorldEvent, decoded, goes_
 use Rattle.endpoints.specs.Addresses.{endpoint_of}
 use Rattle.model_laws.specs.Agreement.{IsIn}
 use Rattle.model_laws.specs.DrawnIds.{with_entry}
-use Rattle.model_laws.specs.Order.{IsInOrder}
 use Rattle.model_laws.specs.ReachedWorlds.{Heard, Reached, counts, fell, post_all, rose, stepped, waited}
 use Rattle.model_laws.proofs.Addresses.{HaveBases}
 use Rattle.model_laws.proofs.NodeLives.{opening_node}
-use Rattle.model_laws.proofs.DecisionLaws.{IfThere, all_join}
+use Rattle.model_laws.proofs.DecisionLaws.{all_join}
 use Rattle.model_laws.proofs.EventSteps.{Begins, IsTimed, Lasting, event_lasts, timed_heard}
 use Rattle.model_laws.proofs.ReachedWorlds.{in_order}
 use Rattle.agreement.specs.StepDeeds.{standing}
-use Rattle.enlistments.specs.Moves.{Registered}
 use Rattle.enlistments.specs.NoticeOrigins.{Responds, names_completion, names_seat}
 use Rattle.enlistments.proofs.Arrivals.{up_known, world_bases}
 use Rattle.enlistments.proofs.StepMoves.{book_ready}
 use Rattle.enlistments.proofs.StepNotices.{steps_tell}
-use Rattle.printed_agreement.specs.RegisterAnswers.{Answers, AsksAt, IsSeatOf}
+use Rattle.printed_agreement.specs.RegisterAnswers.{Answers, AsksAt}
 
 none_timed : (e : Event) (a : Arrived) → IsTimed e → e ≡ events.Arrived a → ⊥
 none_timed (events.Arrived b) a t e = t

@@ -1,8 +1,8 @@
 -- What is printed of an event, line by line.
-use Rattle.std.proofs.Common.{ℕ, zero, suc, List, [], ◌∷◌, ◌++◌, ◌≡◌, ◌==◌, ◌≤◌, ◌+◌, Bool, true, false, Option, Some, None, drop, length, map, sym, ap, subst, ◌∙◌, arith, refl}
-use Rattle.std.specs.Prelude.{codes, decimal, min, take}
+use Rattle.std.proofs.Common.{ℕ, zero, suc, List, [], ◌∷◌, ◌++◌, ◌≡◌, ◌==◌, ◌+◌, Option, Some, None, drop, map, sym, ap, subst, ◌∙◌, arith, refl}
+use Rattle.std.specs.Prelude.{codes, decimal, take}
 use Rattle.std.specs.List.{AllByRecursion, list_any}
-use Rattle.std.proofs.lemmas.List.{append_assoc, append-nil, length-append, map-append}
+use Rattle.std.proofs.lemmas.List.{append_assoc, append-nil, map-append}
 use Rattle.armed_calls.specs.declared.fault.Fault.{Fault}
 use Rattle.at_base.specs.IdText.{id_text}
 use Rattle.at_base.specs.Names.{fault_name, kind_letter}
@@ -23,7 +23,7 @@ use Rattle.at_model.specs.Activities.{Refusal}
 use Rattle.at_model.specs.Book.{Book}
 use Rattle.at_model.specs.Step.{refuses}
 use Rattle.at_model.specs.Views.{line_of, message_name, path_in, receiver_number}
-use Rattle.at_model.specs.World.{Posted, World, WorldEvent, Turn, Ask, Crash, Up, Deliver, Tick, Raw, node_of, nth, Hosts, example_hosts}
+use Rattle.at_model.specs.World.{Posted, World, WorldEvent, Turn, Ask, Crash, Up, Deliver, Tick, Raw, nth, Hosts, example_hosts}
 use Rattle.effect_words.specs.Words.{ending_word, refusal_word, told_word}
 use Rattle.endpoints.specs.Addresses.{path_of}
 use Rattle.fated_walks.specs.Statuses.{status_in}
@@ -38,11 +38,10 @@ use Rattle.reported_effects.specs.EffectLines.{IsUnbroken, with_end}
 use Rattle.reported_effects.proofs.PrintedLines.{decimal_unbroken, ending_unbroken, id_unbroken, item_end, last_word, leaf_unbroken, numbered, outcome_unbroken, refusal_unbroken, start_unbroken, told_unbroken}
 use Rattle.reported_effects.proofs.PrintedTexts.{IsEnd, end, fed, fed_both, onto, part, whole_both}
 use Rattle.printed_agreement.specs.PlainPosts.{IsPlain, IsPlainMessage}
-use Rattle.printed_agreement.specs.PrintedAgreement.{delivery_line, message_line}
 use Rattle.printed_agreement.specs.RegisterAnswers.{IsBrought, IsNoDelivery}
 use Rattle.printed_agreement.specs.ReportLines.{Delivered, Entry, IsQuiet, Posts, Quiet, Sound, line_in}
 use Rattle.printed_agreement.proofs.Places.{path_shown}
-use Rattle.printed_agreement.proofs.Soundness.{IsStepLine, Opens, delivery_sound, sound_both, steps_open, steps_sound}
+use Rattle.printed_agreement.proofs.Soundness.{IsStepLine, Opens, delivery_sound, steps_open, steps_sound}
 use Rattle.printed_agreement.proofs.Texts.{Lacks, apart, below_digits, both_false, decimal_lacks, parted}
 
 -- a text of these lines
@@ -341,3 +340,9 @@ event_chunk hosts w v more grows f s (Ask n l fates until) os b h = by_book (boo
     by_book : (o : Option Book) → Chunk hosts v (request_result l o ++ b)
     by_book None = behind_quiet hosts v (IsBrought hosts w (Ask n l fates until)) (request_result l None) b (refused_quiet (codes "down") refl) h
     by_book (Some book) = asked_chunk hosts w v (Ask n l fates until) (refuses book l) b tt h
+
+-- a text of lines that stand in a world
+pub record Printed (count : ℕ) (w : World) (text : List ℕ) : Type 0 where
+  pub entries : List Entry
+  pub reads : Reads text entries
+  pub sound : Sound (example_hosts count) w entries

@@ -1,23 +1,22 @@
 -- The lines that tell how something ended, each as what happened.
-use Rattle.std.proofs.Common.{ℕ, List, [], ◌∷◌, ◌++◌, ◌≡◌, ◌⊎◌, inl, inr, ◌<◌, ◌≤◌, ◌^◌, drop, length, map, sym, ap, subst, ◌∙◌, arith, refl}
+use Rattle.std.proofs.Common.{ℕ, List, [], ◌∷◌, ◌++◌, ◌≡◌, ◌⊎◌, inl, inr, ◌<◌, ◌^◌, drop, length, map, sym, ap, subst, arith, refl}
 use Rattle.std.specs.Prelude.{codes, decimal}
 use Rattle.std.specs.List.{AllByRecursion}
 use Rattle.at_base.specs.IdText.{IsId, id_text}
 use Rattle.at_base.specs.Names.{kind_letter}
-use Rattle.at_base.specs.Numbers.{Numbers}
 use Rattle.at_base.specs.declared.notice.Kind.{Kind}
 use Rattle.at_base.specs.declared.notice.Kind.TheVariants as kinds
 use Rattle.at_base.specs.declared.outs.Effect.{Effect}
 use Rattle.at_base.specs.declared.outs.Effect.TheVariants as effects
 use Rattle.at_base.specs.declared.outs.Ending.{Ending}
 use Rattle.at_base.specs.declared.outs.Ending.TheVariants as endings
-use Rattle.at_model.specs.World.{Happened, Posted, Who, World, example_hosts, happened_at, HaveOwnAddresses}
-use Rattle.effect_words.specs.Words.{ending_word, told_word}
+use Rattle.at_model.specs.World.{Happened, Who, World, example_hosts, happened_at, HaveOwnAddresses}
+use Rattle.effect_words.specs.Words.{ending_word}
 use Rattle.model_laws.specs.Agreement.{HasAborted, HasEnded, IsAgreed, IsIn, IsOf}
 use Rattle.model_laws.specs.Agreement.{itself as itself_of, below as below_of}
 use Rattle.model_laws.specs.ReachedWorlds.{Reached}
 use Rattle.printed_agreement.specs.PlainPosts.{IsPlain}
-use Rattle.printed_agreement.specs.PrintedAgreement.{AgreesInPrint, Ends, IsOneOf, IsSplitIn, Takes, below, ending_line, itself}
+use Rattle.printed_agreement.specs.PrintedAgreement.{AgreesInPrint, Ends, IsOneOf, below, ending_line, itself}
 use Rattle.printed_agreement.specs.ReportLines.{AreTold, Entry, LinesAgree, Sound, effect_text, happened_text, line_in, who}
 use Rattle.printed_agreement.proofs.Entries.{taken}
 use Rattle.printed_agreement.proofs.Texts.{apart, below_digits, decimal_lacks, id_alone, id_lacks, number_alone, parted}

@@ -1,11 +1,10 @@
 -- The lines of a report, each as what it is of: a delivery, a message, or neither.
-use Rattle.std.proofs.Common.{ℕ, suc, List, [], ◌∷◌, ◌++◌, ◌≡◌, ◌⊎◌, inl, inr, ◌<◌, ◌≤◌, ◌+◌, ◌-◌, ◌^◌, Bool, true, false, Option, Some, None, drop, length, map, sym, ap, subst, ◌∙◌, arith, refl}
+use Rattle.std.proofs.Common.{ℕ, suc, List, [], ◌∷◌, ◌++◌, ◌≡◌, inl, inr, ◌<◌, ◌≤◌, ◌+◌, ◌-◌, ◌^◌, Bool, true, false, Option, Some, None, drop, length, map, sym, ap, subst, ◌∙◌, arith, refl}
 use Rattle.std.specs.Prelude.{codes, decimal, nat_eq, option_map, if◌then◌else◌}
 use Rattle.std.specs.List.{AllByRecursion}
 use Rattle.std.proofs.lemmas.Bool.{eqb-true}
-use Rattle.at_base.specs.IdText.{IsId, hyphen, id_text}
-use Rattle.at_base.specs.Names.{fault_name, kind_letter}
-use Rattle.at_base.specs.Numbers.{Numbers}
+use Rattle.at_base.specs.IdText.{IsId, id_text}
+use Rattle.at_base.specs.Names.{fault_name}
 use Rattle.at_base.specs.declared.epr.Epr.{Epr}
 use Rattle.at_base.specs.declared.fault.Fault.{Fault}
 use Rattle.at_base.specs.declared.fault.Fault.TheVariants as faults
@@ -22,9 +21,9 @@ use Rattle.model_laws.specs.ReachedWorlds.{Reached}
 use Rattle.model_laws.proofs.Addresses.{place_is}
 use Rattle.agreement.proofs.SeatedEntries.{one_of}
 use Rattle.printed_agreement.specs.PlainPosts.{IsPlain, IsPlainMessage}
-use Rattle.printed_agreement.specs.PrintedAgreement.{Takes, delivery_line, message_line, register_line, response_line}
+use Rattle.printed_agreement.specs.PrintedAgreement.{Takes, delivery_line, message_line, register_line}
 use Rattle.printed_agreement.specs.RegisterAnswers.{Answers}
-use Rattle.printed_agreement.specs.ReportLines.{Brings, Delivered, Entry, IsQuiet, Posts, Quiet, Sound, Stands, line_in}
+use Rattle.printed_agreement.specs.ReportLines.{Delivered, Entry, Posts, Quiet, Sound, Stands, line_in}
 use Rattle.printed_agreement.proofs.Takings.{accepted}
 use Rattle.printed_agreement.proofs.Texts.{Lacks, apart, below_digits, decimal_lacks, no_arrow, number_alone, parted}
 

@@ -7,5 +7,4 @@ mod Endings
 mod Deliveries
 pub mod Soundness
 pub mod Chunks
-pub mod Courses
 pub mod Reports

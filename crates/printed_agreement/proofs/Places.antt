@@ -1,6 +1,6 @@
 -- Where the endpoints of nodes of the examples lead, and what is shown of them.
-use Rattle.std.proofs.Common.{ℕ, List, [], ◌∷◌, ◌++◌, ◌≡◌, ◌==◌, ◌<◌, ◌≤◌, ◌+◌, ◌^◌, drop, length, Bool, true, false, Option, Some, None, sym, ap, subst, ◌∙◌, arith, refl}
-use Rattle.std.specs.Prelude.{nat_eq, codes, decimal, option_and_then, option_map, if◌then◌else◌}
+use Rattle.std.proofs.Common.{ℕ, List, [], ◌∷◌, ◌++◌, ◌≡◌, ◌==◌, ◌<◌, ◌≤◌, ◌+◌, ◌^◌, drop, Option, Some, None, sym, ap, subst, ◌∙◌, arith, refl}
+use Rattle.std.specs.Prelude.{codes, decimal, option_and_then, option_map}
 use Rattle.std.specs.List.{list_any}
 use Rattle.std.proofs.lemmas.List.{append_assoc}
 use Rattle.at_base.specs.IdText.{IsId, id_text}

@@ -8,23 +8,18 @@ use Rattle.at_base.specs.Names.{kind_letter}
 use Rattle.at_base.specs.Numbers.{Numbers}
 use Rattle.at_base.specs.declared.outs.Effect.{Effect}
 use Rattle.at_base.specs.declared.outs.Effect.TheVariants as effects
-use Rattle.at_model.specs.World.{Happened, Posted, Who, World, example_hosts, HaveOwnAddresses}
+use Rattle.at_model.specs.World.{Happened, World, example_hosts, HaveOwnAddresses}
 use Rattle.effect_words.specs.Words.{ending_word, told_word}
 use Rattle.model_laws.specs.Agreement.{IsAgreed, IsIn}
 use Rattle.model_laws.specs.ReachedWorlds.{Reached}
-use Rattle.model_laws.proofs.Addresses.{examples_apart}
 use Rattle.replay_cmd.specs.Lines.{effect_line, item_line, leaf_words}
-use Rattle.replay_cmd.specs.ReportOf.{course_with, nodes_of, whole}
-use Rattle.reported_effects.specs.EffectLines.{IsOnOneLine, ReportsTell, Tells, happened_line, is_effect_line, with_end}
+use Rattle.reported_effects.specs.EffectLines.{Tells, happened_line, is_effect_line, with_end}
 use Rattle.reported_effects.proofs.PrintedTexts.{lines_are}
 use Rattle.schedules.specs.Words.{lines_of}
-use Rattle.world_laws.specs.Moves.{ChangesByMoves}
 use Rattle.printed_agreement.specs.PlainPosts.{IsPlain}
 use Rattle.printed_agreement.specs.PrintedAgreement.{AgreesInPrint, ending_line}
-use Rattle.printed_agreement.specs.PrintedReports.{ReportsAgree}
-use Rattle.printed_agreement.specs.ReportLines.{AreTold, Entry, effect_text, happened_text, line_in, who}
-use Rattle.printed_agreement.proofs.Chunks.{name_unbroken, to_unbroken}
-use Rattle.printed_agreement.proofs.Courses.{HoldsAt, Printed, whole_on, with_on}
+use Rattle.printed_agreement.specs.ReportLines.{AreTold, effect_text, happened_text, line_in, who}
+use Rattle.printed_agreement.proofs.Chunks.{Printed}
 use Rattle.printed_agreement.proofs.Endings.{agrees_in_print}
 
 -- an LF at the end
@@ -102,14 +97,3 @@ pub printed_agrees : (count : ℕ) (w : World) (text : List ℕ) → count < 2 ^
 printed_agrees count w text few distinct reached plain short p tells agreed =
     agrees_in_print count few distinct w reached plain short p.entries (lines_of text) (ap lines_of p.reads.is ∙ lines_are (map line_in p.entries) p.reads.whole) p.sound
     (are_told text w.happened tells) agreed
-
-plain_one : (count : ℕ) (ps : List Posted) → AllByRecursion (IsPlain count) ps → AllByRecursion IsOnOneLine ps
-plain_one count [] h = tt
-plain_one count (p ∷ ps) h = (record { name = name_unbroken p.content.message h.0.message; path = to_unbroken count p h.0 }, plain_one count ps h.1)
-
-pub reports_agree : ChangesByMoves → ReportsTell → ReportsAgree
-reports_agree moves tell settles draws all few plain short agreed =
-    let distinct = examples_apart (nodes_of all) few in
-    let c = course_with settles draws all in
-    let h = whole_on moves (nodes_of all) distinct c (with_on moves (nodes_of all) distinct settles draws all refl) in
-    printed_agrees (nodes_of all) c.world (whole c) few distinct h.reached plain short (h.printed plain) (tell settles draws all (plain_one (nodes_of all) c.world.posted plain)) agreed

@@ -1,5 +1,5 @@
 -- A Register that is shown with its answer is a registration that its transaction accepted.
-use Rattle.std.proofs.Common.{ℕ, List, [], ◌∷◌, ◌++◌, ◌≡◌, ◌<◌, ◌≤◌, ◌^◌, Bool, true, false, Option, Some, None, sym, ap, subst, ◌∙◌, arith, refl}
+use Rattle.std.proofs.Common.{ℕ, List, ◌∷◌, ◌++◌, ◌≡◌, ◌<◌, ◌≤◌, ◌^◌, Bool, true, false, Option, Some, None, sym, ap, subst, ◌∙◌, arith, refl}
 use Rattle.std.specs.Prelude.{codes, option_and_then, if◌then◌else◌}
 use Rattle.at_base.specs.IdText.{IsId, id_text}
 use Rattle.at_base.specs.Names.{fault_name}
@@ -14,7 +14,6 @@ use Rattle.at_base.specs.declared.notice.Kind.TheVariants as kinds
 use Rattle.at_base.specs.declared.notice.Notice.{Notice}
 use Rattle.at_base.specs.declared.notice.Notice.TheVariants as notices
 use Rattle.at_base.specs.declared.outs.Post.{Post}
-use Rattle.at_base.specs.declared.target.Seat.{Seat}
 use Rattle.at_base.specs.declared.target.Target.{Target}
 use Rattle.at_base.specs.declared.target.Target.TheVariants as targets
 use Rattle.at_model.specs.Views.{message_name, path_in, receiver_number}
@@ -28,7 +27,7 @@ use Rattle.enlistments.specs.Leads.{Enlists, LeadsTo}
 use Rattle.enlistments.proofs.Answers.{answer_names}
 use Rattle.printed_agreement.specs.PlainPosts.{IsOfNode, IsPlain, IsPlainMessage}
 use Rattle.printed_agreement.specs.RegisterAnswers.{Answers}
-use Rattle.printed_agreement.proofs.Places.{Received, at_node, participant_is, path_shown, received_at, registration_is, same_base, seat_is}
+use Rattle.printed_agreement.proofs.Places.{at_node, participant_is, path_shown, received_at, registration_is, same_base, seat_is}
 use Rattle.printed_agreement.proofs.Texts.{apart}
 
 -- names

@@ -2,5 +2,4 @@ pub mod RegisterAnswers
 pub mod PlainPosts
 pub mod PrintedAgreement
 pub mod ReportLines
-pub mod PrintedReports
 pub mod Examples

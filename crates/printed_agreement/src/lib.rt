@@ -1,11 +1,9 @@
 //! Laws alone: agreement, read off the printed lines of a report.
 #![tactic(auto)]
 
-ghost use Rattle.printed_agreement.specs.PrintedReports.{ReportsAgree};
 ghost use Rattle.printed_agreement.specs.RegisterAnswers.{EventsBring};
 ghost use Rattle.printed_agreement.specs.ReportLines.{LinesAgree};
 
-use reported_effects::reports_tell;
 use world_laws::laws::changes_by_moves;
 
 /// An answer to a Register is posted where that Register is delivered, and names a seat, or the completion seat, of the transaction that
@@ -24,12 +22,3 @@ pub fn events_bring()
 pub fn lines_agree()
     ensures { LinesAgree }
 {}
-
-/// No two of one transaction end differently in what a report prints, as one reads it off its lines alone (WS-AtomicTransaction 1.2, section 1).
-#[tactic(auto, using(crate::proofs::Reports::reports_agree))]
-pub fn reports_agree()
-    ensures { ReportsAgree }
-{
-    changes_by_moves();
-    reports_tell();
-}

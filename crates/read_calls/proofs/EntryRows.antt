@@ -5,9 +5,8 @@ use Rattle.std.proofs.lemmas.List.{length-map, length-take-le}
 use Rattle.site_memory.specs.Entries.{made_of, mades}
 use Rattle.site_memory.specs.declared.entry.Entry.{Entry}
 use Rattle.mirrored_nets.specs.Fates.{anew_of, disk_part}
-use Rattle.mirrored_nets.specs.TookAnew.{before_anew}
-use Rattle.mirrored_nets.proofs.JudgedAnew.{anew_so}
-use Rattle.mirrored_nets.proofs.JudgedCalls.{behind_lines}
+use Rattle.mirrored_nets.specs.AnewCalls.{before_anew}
+use Rattle.mirrored_nets.proofs.FatesOfCalls.{anew_so, behind_lines}
 
 pub count_of : (calls : List Entry) → length (mades calls) ≡ length calls
 count_of calls = length-map calls made_of

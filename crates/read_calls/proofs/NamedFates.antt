@@ -7,10 +7,10 @@ use Rattle.site_memory.specs.ToldCalls.{AreArmed}
 use Rattle.site_model.specs.Told.{Made}
 use Rattle.world_laws.specs.Fates.{behind_done}
 use Rattle.mirrored_nets.specs.Fates.{AllDone, all_done, disk_part, fates_in, is_done, record_fate, sent_of}
-use Rattle.mirrored_nets.specs.TookAnew.{before_anew}
+use Rattle.mirrored_nets.specs.AnewCalls.{before_anew}
 use Rattle.mirrored_nets.proofs.CallsRead.{record_fate_is}
 use Rattle.mirrored_nets.proofs.DoneCalls.{all_test}
-use Rattle.mirrored_nets.proofs.StruckRows.{AllYes, done_before, done_behind, yes_each, yes_join, yes_record}
+use Rattle.mirrored_nets.proofs.ArmedRows.{AllYes, done_before, done_behind, yes_each, yes_join, yes_record}
 use Rattle.call_readings.specs.Reads.{led_by, named, read_fates}
 use Rattle.read_calls.proofs.PartsOfCalls.{among_parts, behind_parts, disk_armed, fails_within, sent_armed}
 

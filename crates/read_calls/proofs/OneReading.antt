@@ -10,9 +10,9 @@ use Rattle.torn_appends.specs.TornAppends.{stands_behind}
 use Rattle.mirrored_nets.specs.Fates.{anew_of, disk_part}
 use Rattle.mirrored_nets.specs.Kept.{kept_at}
 use Rattle.mirrored_nets.specs.Took.{HaltsSo, IsKept, StopsBefore, StopsInStep}
-use Rattle.mirrored_nets.specs.TookAnew.{before_anew}
-use Rattle.mirrored_nets.specs.declared.judged.Armed.{Armed}
-use Rattle.mirrored_nets.specs.declared.judged.Armed.TheVariants as arms
+use Rattle.mirrored_nets.specs.AnewCalls.{before_anew}
+use Rattle.mirrored_nets.specs.declared.armed.Armed.{Armed}
+use Rattle.mirrored_nets.specs.declared.armed.Armed.TheVariants as arms
 use Rattle.mirrored_nets.proofs.HaltedGates.{one_left}
 use Rattle.call_readings.specs.Reads.{FailsLast, IsCutAt, IsUncut, ReadsAs, fate_behind, fate_number, is_halted, read_fates}
 use Rattle.call_readings.specs.declared.became.Became.{Became}

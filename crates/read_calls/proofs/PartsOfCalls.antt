@@ -6,8 +6,8 @@ use Rattle.std.proofs.lemmas.List.{length-append, length-drop}
 use Rattle.site_memory.specs.ToldCalls.{AreArmed}
 use Rattle.site_model.specs.Told.{Made}
 use Rattle.mirrored_nets.specs.Fates.{all_done, anew_of, behind_disk, behind_sent, disk_part, is_disk, sent_of, sent_part}
-use Rattle.mirrored_nets.specs.TookAnew.{before_anew}
-use Rattle.mirrored_nets.proofs.StruckRows.{parts_armed}
+use Rattle.mirrored_nets.specs.AnewCalls.{before_anew}
+use Rattle.mirrored_nets.proofs.ArmedRows.{parts_armed}
 
 -- those behind so many
 pub dropped_armed : (n before fails : ℕ) (ms : List Made) → AreArmed before fails ms → AreArmed (before + n) fails (drop n ms)

@@ -6,17 +6,17 @@ ghost use Rattle.site_memory.specs.ToldCalls.{AreArmed};
 ghost use Rattle.torn_appends.specs.TornAppends.{gate_stands, stands_behind};
 ghost use Rattle.mirrored_nets.specs.Kept.{is_write, kept_at, writes_at};
 ghost use Rattle.mirrored_nets.specs.Took.{IsKept, StopsBefore, StopsInStep};
-ghost use Rattle.mirrored_nets.specs.TookAnew.{before_anew};
+ghost use Rattle.mirrored_nets.specs.AnewCalls.{before_anew};
 ghost use Rattle.call_readings.specs.Reads.{IsUncut, Reads, ReadsAs, failing_call, fate_number, is_halted, read_fates};
 ghost use Rattle.call_readings.specs.declared.became.Became.{Became as Known};
 ghost use Rattle.call_readings.specs.declared.became.Became.TheVariants as becomes;
-ghost use Rattle.mirrored_nets.specs.declared.judged.Armed.{Armed as Arms};
+ghost use Rattle.mirrored_nets.specs.declared.armed.Armed.{Armed as Arms};
 ghost use Rattle.node_events.specs.NodeEvents.{struck};
 ghost use Rattle.read_calls.specs.IsRead.{IsRead, fates_of};
 
 use call_readings::became::Became;
+use mirrored_nets::armed::Armed;
 use mirrored_nets::calls::{anew, behind, disk_calls};
-use mirrored_nets::judged::Armed;
 use site_memory::arm::Choice;
 use site_memory::entry::{Deed, Entry};
 

@@ -32,11 +32,10 @@ use Rattle.mirrored_nets.specs.Mirrors.{Mirrors}
 use Rattle.mirrored_nets.specs.Took.{AnswersSo, ComesTo, HaltsSo, StopsBefore, StopsInStep, TookRequest}
 use Rattle.mirrored_nets.specs.declared.came.Came.TheVariants as cames
 use Rattle.mirrored_nets.proofs.FallenHosts.{InWorld, NetLaws}
-use Rattle.mirrored_nets.proofs.FallenRequests.{before as before_of, comes, ends, from as from_of, halt_comes, halted as halted_of, is_ask as is_ask_of, is_now as is_now_of, is_up_there, its_doing as its_doing_of, its_step as its_step_of}
-use Rattle.mirrored_nets.proofs.FallenRequests.{none_made, requests as requests_of, same_site as same_site_of, steps_read as steps_read_of, there as there_of}
+use Rattle.mirrored_nets.proofs.FallenRequests.{before as before_of, comes, ends, from as from_of, halt_comes, halted as halted_of, is_ask as is_ask_of, is_now as is_now_of, is_up_there, its_doing as its_doing_of, its_step as its_step_of, none_made, requests as requests_of, same_site as same_site_of, steps_read as steps_read_of, there as there_of}
 use Rattle.mirrored_nets.proofs.StepsLeft.{fates_so, first_landed, left_so}
 use Rattle.mirrored_nets.proofs.StoppedRequests.{no_stop}
-use Rattle.mirrored_nets.proofs.StruckCuts.{is_fated}
+use Rattle.mirrored_nets.proofs.StoppedFates.{is_fated}
 use Rattle.mirrored_nets.proofs.TurnsTaken.{TurnLaws}
 use Rattle.reading_laws.specs.GoneRequests.{AskedTell}
 use Rattle.reading_laws.specs.GoneTurns.{TellsFallen, TellsHalted}

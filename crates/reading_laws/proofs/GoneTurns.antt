@@ -24,11 +24,10 @@ use Rattle.mirrored_nets.specs.Mirrors.{Mirrors}
 use Rattle.mirrored_nets.specs.Took.{ComesTo, HaltsSo, StopsBefore, StopsInStep, TookTurn}
 use Rattle.mirrored_nets.specs.declared.came.Came.TheVariants as cames
 use Rattle.mirrored_nets.proofs.FallenHosts.{InWorld, NetLaws}
-use Rattle.mirrored_nets.proofs.FallenTurns.{H as fallen_heard, W as halted_did, all_left, comes, halt_comes, heard as halted_heard, there as there_of}
-use Rattle.mirrored_nets.proofs.FallenTurns.{before as before_of, from as from_of, halt as halt_of, turn as turn_of}
+use Rattle.mirrored_nets.proofs.FallenTurns.{H as fallen_heard, W as halted_did, all_left, before as before_of, comes, from as from_of, halt as halt_of, halt_comes, heard as halted_heard, there as there_of, turn as turn_of}
 use Rattle.mirrored_nets.proofs.HaltedTurns.{DidHalt}
 use Rattle.mirrored_nets.proofs.StepsLeft.{fates_so}
-use Rattle.mirrored_nets.proofs.StruckCuts.{is_fated}
+use Rattle.mirrored_nets.proofs.StoppedFates.{is_fated}
 use Rattle.mirrored_nets.proofs.TurnsTaken.{HeardTurn, TurnLaws}
 use Rattle.reading_laws.specs.GoneTurns.{TellsFallen, TellsHalted, TurnsTell}
 

@@ -14,9 +14,9 @@ use Rattle.site_memory.specs.Armings.{call_number}
 use Rattle.site_memory.specs.ToldCalls.{AreArmed}
 use Rattle.site_model.specs.Told.{Made}
 use Rattle.mirrored_nets.specs.Fates.{AllDone, refusals}
-use Rattle.mirrored_nets.specs.StruckTurns.{fails_of}
-use Rattle.mirrored_nets.specs.declared.judged.Armed.{Armed}
-use Rattle.mirrored_nets.specs.declared.judged.Armed.TheVariants as arms
+use Rattle.mirrored_nets.specs.ToldMachines.{fails_of}
+use Rattle.mirrored_nets.specs.declared.armed.Armed.{Armed}
+use Rattle.mirrored_nets.specs.declared.armed.Armed.TheVariants as arms
 use Rattle.mirrored_nets.proofs.CallRows.{all_refused_none}
 use Rattle.mirrored_nets.proofs.CallsRead.{IsRecordOf, parts, refusals_are}
 use Rattle.mirrored_nets.proofs.TurnsRead.{StepsRead}

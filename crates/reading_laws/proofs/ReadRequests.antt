@@ -31,11 +31,11 @@ use Rattle.site_memory.specs.declared.machine.MemSite.{MemSite}
 use Rattle.site_model.specs.Told.{Made}
 use Rattle.mirrored_nets.specs.Fates.{AllDone, anew_of, refusals}
 use Rattle.mirrored_nets.specs.Mirrors.{Mirrors}
-use Rattle.mirrored_nets.specs.StruckTurns.{fails_of}
+use Rattle.mirrored_nets.specs.ToldMachines.{fails_of}
 use Rattle.mirrored_nets.specs.Took.{Adds, AnswersSo, HasRoom}
 use Rattle.mirrored_nets.specs.declared.came.Came.TheVariants as cames
-use Rattle.mirrored_nets.specs.declared.judged.Armed.{Armed}
-use Rattle.mirrored_nets.specs.declared.judged.Armed.TheVariants as arms
+use Rattle.mirrored_nets.specs.declared.armed.Armed.{Armed}
+use Rattle.mirrored_nets.specs.declared.armed.Armed.TheVariants as arms
 use Rattle.mirrored_nets.proofs.AskedMachines.{request_kept}
 use Rattle.mirrored_nets.proofs.CallRows.{all_refused_none}
 use Rattle.mirrored_nets.proofs.CalledFates.{local_called, planned_calls}
@@ -43,11 +43,10 @@ use Rattle.mirrored_nets.proofs.CallsRead.{Read, anew_behind}
 use Rattle.mirrored_nets.proofs.FallenHosts.{InWorld, IsBefore, NetLaws, in_world, up_there}
 use Rattle.mirrored_nets.proofs.HaltedGates.{broken_gate}
 use Rattle.mirrored_nets.proofs.RequestsRead.{doing_done, fate_landed, is_doing, is_step, request_read, step_done}
-use Rattle.mirrored_nets.proofs.StruckHalts.{GateFails, gate_fails}
-use Rattle.mirrored_nets.proofs.StruckRows.{done_behind}
-use Rattle.mirrored_nets.proofs.StruckTurns.{numbered}
+use Rattle.mirrored_nets.proofs.FailedGates.{GateFails, gate_fails}
+use Rattle.mirrored_nets.proofs.ArmedRows.{done_behind}
+use Rattle.mirrored_nets.proofs.ToldMachines.{armed_row, gates_stand, numbered}
 use Rattle.mirrored_nets.proofs.ToldFares.{HaveCalls}
-use Rattle.mirrored_nets.proofs.ToldMachines.{armed_row, gates_stand}
 use Rattle.mirrored_nets.proofs.TurnsRead.{StepsRead}
 use Rattle.mirrored_nets.proofs.TurnsTaken.{TurnLaws, fits, owned}
 use Rattle.call_readings.specs.Reads.{IsUncut, ReadsRequest, came_to, failing_call, is_halted, read_fates}

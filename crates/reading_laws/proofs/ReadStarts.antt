@@ -4,8 +4,6 @@ use Rattle.std.proofs.Common.{ap, arith, inl, inr, refl, subst, sym, true≢fals
 use Rattle.std.proofs.Math.Seq.{drop-append_seam}
 use Rattle.std.proofs.lemmas.Bool.{eq-eqb, eqb-false, eqb-true, leb-false, leb-true, ne_eqb}
 use Rattle.std.proofs.lemmas.List.{length-append, length-map}
-use Rattle.armed_calls.specs.Faults.{record_stands}
-use Rattle.armed_calls.specs.declared.fault.Fault.TheVariants as faults
 use Rattle.journal_at.specs.Loads.{FailsAt, syncs}
 use Rattle.journal_at.specs.Loads.FailsAt.{sync, read, gate}
 use Rattle.journal_at.specs.declared.version.Version.TheVariants.{One, Two}
@@ -29,19 +27,18 @@ use Rattle.torn_appends.specs.TornAppends.{stands_behind}
 use Rattle.mirrored_nets.specs.DueStarts.{StartsFailForWant}
 use Rattle.mirrored_nets.specs.Fates.{AllDone, refusals}
 use Rattle.mirrored_nets.specs.Kept.{kept_at}
-use Rattle.mirrored_nets.specs.StruckStarts.{FailedStartsLeave, IsMarked, LeavesFailed, LeavesStart, StartsLeave}
-use Rattle.mirrored_nets.specs.StruckTurns.{IsToldOf, fails_of}
+use Rattle.mirrored_nets.specs.LeftStarts.{FailedStartsLeave, IsMarked, LeavesFailed, LeavesStart, StartsLeave, stands_failed}
+use Rattle.mirrored_nets.specs.ToldMachines.{IsToldOf, fails_of}
 use Rattle.mirrored_nets.specs.Took.{Adds}
-use Rattle.mirrored_nets.specs.declared.judged.Armed.{Armed}
-use Rattle.mirrored_nets.specs.declared.judged.Armed.TheVariants as arms
+use Rattle.mirrored_nets.specs.declared.armed.Armed.{Armed}
+use Rattle.mirrored_nets.specs.declared.armed.Armed.TheVariants as arms
 use Rattle.mirrored_nets.proofs.AnewCalls.{each_done}
 use Rattle.mirrored_nets.proofs.CallRows.{all_refused_none}
 use Rattle.mirrored_nets.proofs.LeftStarts.{plain, two}
 use Rattle.mirrored_nets.proofs.OneStanding.{version_one}
 use Rattle.mirrored_nets.proofs.StoodStarts.{read_in}
-use Rattle.mirrored_nets.proofs.StruckRows.{done_behind, parts_armed}
-use Rattle.mirrored_nets.proofs.StruckTurns.{numbered}
-use Rattle.mirrored_nets.proofs.ToldMachines.{armed_row}
+use Rattle.mirrored_nets.proofs.ArmedRows.{done_behind, parts_armed}
+use Rattle.mirrored_nets.proofs.ToldMachines.{armed_row, numbered}
 use Rattle.call_readings.specs.Reads.{FailsLast, IsUncut, failing_call}
 use Rattle.call_readings.specs.ReadsStart.{ReadsStart}
 use Rattle.call_readings.specs.declared.became.Became.TheVariants as becomes
@@ -79,7 +76,7 @@ last_armed before k made F armed = by (nat_eq (suc (before + length F.front)) (b
     by false e = absurd (true≢false (sym (last ∙ ap not e) ∙ F.fails))
 
 -- the Start stands behind its four calls alone
-sixth : (k : ℕ) → nat_eq k 6 ≡ record_stands (k - 2) faults.Fail
+sixth : (k : ℕ) → nat_eq k 6 ≡ stands_failed (k - 2)
 sixth k = by (nat_eq (k - 2) 4) refl
   where
     by : (b : Bool) → nat_eq (k - 2) 4 ≡ b → nat_eq k 6 ≡ b

@@ -13,9 +13,9 @@ use Rattle.memory_net.proofs.MailedPosts.{all_right}
 use Rattle.mirrored_nets.specs.Fates.{AllDone, IsDone, anew_of, disk_part, is_disk, sent_of}
 use Rattle.mirrored_nets.specs.Kept.{is_write, kept_at, writes_at}
 use Rattle.mirrored_nets.specs.Took.{StopsBefore, StopsInStep}
-use Rattle.mirrored_nets.specs.TookAnew.{before_anew}
-use Rattle.mirrored_nets.specs.declared.judged.Armed.{Armed}
-use Rattle.mirrored_nets.specs.declared.judged.Armed.TheVariants as arms
+use Rattle.mirrored_nets.specs.AnewCalls.{before_anew}
+use Rattle.mirrored_nets.specs.declared.armed.Armed.{Armed}
+use Rattle.mirrored_nets.specs.declared.armed.Armed.TheVariants as arms
 use Rattle.mirrored_nets.proofs.CallRows.{AreParts, AreSendings, anew_is, disk_is, sent_is}
 use Rattle.mirrored_nets.proofs.KeptCalls.{kept_most}
 use Rattle.call_readings.specs.Reads.{IsCutAt, IsOfSteps, IsUncut, ReadsAs, fate_behind, fate_number, is_halted, read_fates}

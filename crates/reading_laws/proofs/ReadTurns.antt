@@ -34,10 +34,10 @@ use Rattle.site_model.specs.Counts.{Rose}
 use Rattle.site_model.specs.Told.{Made}
 use Rattle.mirrored_nets.specs.Fates.{AllDone, anew_of, refusals}
 use Rattle.mirrored_nets.specs.Mirrors.{Mirrors}
-use Rattle.mirrored_nets.specs.StruckTurns.{fails_of}
+use Rattle.mirrored_nets.specs.ToldMachines.{fails_of}
 use Rattle.mirrored_nets.specs.Took.{Adds, EndsSo, HasRoom, IsTriedLine, IsWhole}
-use Rattle.mirrored_nets.specs.declared.judged.Armed.{Armed}
-use Rattle.mirrored_nets.specs.declared.judged.Armed.TheVariants as arms
+use Rattle.mirrored_nets.specs.declared.armed.Armed.{Armed}
+use Rattle.mirrored_nets.specs.declared.armed.Armed.TheVariants as arms
 use Rattle.mirrored_nets.proofs.CallRows.{all_refused_none, none_refused, refusals_join}
 use Rattle.mirrored_nets.proofs.EndedTurns.{turn_kept}
 use Rattle.mirrored_nets.proofs.FallenHosts.{InWorld, IsBefore, NetLaws, in_world, up_there}
@@ -46,11 +46,10 @@ use Rattle.mirrored_nets.proofs.HaltedTurns.{DidHalt, began_halting}
 use Rattle.mirrored_nets.proofs.InputsHeard.{line_told, works_heard}
 use Rattle.mirrored_nets.proofs.InterimLines.{halts_no_line}
 use Rattle.mirrored_nets.proofs.RewritingCalls.{renewed}
-use Rattle.mirrored_nets.proofs.StruckHalts.{GateFails, gate_fails}
-use Rattle.mirrored_nets.proofs.StruckRows.{done_behind, done_dropped, few_refused, parts_armed}
-use Rattle.mirrored_nets.proofs.StruckSteps.{steps_come}
-use Rattle.mirrored_nets.proofs.StruckTurns.{numbered}
-use Rattle.mirrored_nets.proofs.ToldMachines.{armed_row, gates_stand}
+use Rattle.mirrored_nets.proofs.FailedGates.{GateFails, gate_fails}
+use Rattle.mirrored_nets.proofs.ArmedRows.{done_behind, done_dropped, few_refused, parts_armed}
+use Rattle.mirrored_nets.proofs.ToldTurns.{steps_come}
+use Rattle.mirrored_nets.proofs.ToldMachines.{armed_row, gates_stand, numbered}
 use Rattle.mirrored_nets.proofs.TriedLines.{line_long, line_sendings, none_behind_failed}
 use Rattle.mirrored_nets.proofs.TurnsRead.{StepsRead}
 use Rattle.mirrored_nets.proofs.TurnsTaken.{HeardTurn, TurnLaws, from as from_of, from_is, heard_turn}

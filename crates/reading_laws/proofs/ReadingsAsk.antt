@@ -5,9 +5,9 @@ use Rattle.at_model.specs.World.{fate, fates_left}
 use Rattle.fated_walks.specs.Fated.{IsBeyond, StartsWith}
 use Rattle.site_model.specs.Told.{Made}
 use Rattle.mirrored_nets.specs.Fates.{AllDone, AreAsked, anew_of, fates_in}
-use Rattle.mirrored_nets.specs.TookAnew.{IsAskedWhole}
+use Rattle.mirrored_nets.specs.AnewCalls.{IsAskedWhole}
 use Rattle.mirrored_nets.proofs.DoneCalls.{all_drop}
-use Rattle.mirrored_nets.proofs.StruckRows.{starts_none, yes_fates}
+use Rattle.mirrored_nets.proofs.ArmedRows.{starts_none, yes_fates}
 use Rattle.call_readings.specs.Reads.{led_by, named, read_fates}
 use Rattle.call_readings.specs.declared.became.Became.TheVariants as becomes
 use Rattle.reading_laws.specs.ReadingsAsk.{ReadingsAsk}

@@ -4,9 +4,9 @@ use Rattle.site_model.specs.Told.{Made}
 use Rattle.mirrored_nets.specs.Fates.{AllDone, AreAsked, anew_of}
 use Rattle.mirrored_nets.specs.NetSteps.{IsCutBy}
 use Rattle.mirrored_nets.specs.Took.{ComesTo}
-use Rattle.mirrored_nets.specs.TookAnew.{IsAskedWhole}
+use Rattle.mirrored_nets.specs.AnewCalls.{IsAskedWhole}
 use Rattle.mirrored_nets.specs.declared.came.Came.TheVariants as cames
-use Rattle.mirrored_nets.specs.declared.judged.Armed.{Armed}
+use Rattle.mirrored_nets.specs.declared.armed.Armed.{Armed}
 use Rattle.call_readings.specs.Reads.{Reads}
 use Rattle.call_readings.specs.declared.became.Became.{Became}
 use Rattle.call_readings.specs.declared.became.Became.TheVariants.{Stays, Falls, Halts, FallsAnew, HaltsAnew}

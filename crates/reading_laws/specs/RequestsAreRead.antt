@@ -13,9 +13,9 @@ use Rattle.site_memory.specs.declared.machine.MemSite.{MemSite}
 use Rattle.site_model.specs.Told.{Made}
 use Rattle.mirrored_nets.specs.Goings.{IsSet}
 use Rattle.mirrored_nets.specs.Mirrors.{Mirrors}
-use Rattle.mirrored_nets.specs.StruckTurns.{IsToldOf}
+use Rattle.mirrored_nets.specs.ToldMachines.{IsToldOf}
 use Rattle.mirrored_nets.specs.Took.{Adds, HasRoom}
-use Rattle.mirrored_nets.specs.declared.judged.Armed.{Armed}
+use Rattle.mirrored_nets.specs.declared.armed.Armed.{Armed}
 use Rattle.call_readings.specs.Reads.{ReadsRequest}
 
 -- The node is up in a net that mirrors a world; its program makes one of the requests that can be, and its machine was told which of its calls is

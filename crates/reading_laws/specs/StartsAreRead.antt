@@ -7,10 +7,10 @@ use Rattle.node_at.specs.declared.node.Node.{Node}
 use Rattle.site_memory.specs.declared.machine.MemSite.{MemSite}
 use Rattle.site_model.specs.Told.{Made}
 use Rattle.mirrored_nets.specs.DueStarts.{CanBegin}
-use Rattle.mirrored_nets.specs.StruckStarts.{IsMarked}
-use Rattle.mirrored_nets.specs.StruckTurns.{IsToldOf}
+use Rattle.mirrored_nets.specs.LeftStarts.{IsMarked}
+use Rattle.mirrored_nets.specs.ToldMachines.{IsToldOf}
 use Rattle.mirrored_nets.specs.Took.{Adds}
-use Rattle.mirrored_nets.specs.declared.judged.Armed.{Armed}
+use Rattle.mirrored_nets.specs.declared.armed.Armed.{Armed}
 use Rattle.call_readings.specs.ReadsStart.{ReadsStart}
 
 -- Whatever call is armed, the calls of a start for which there is memory are read, on a machine that has files of version 2 and can begin.

@@ -11,9 +11,9 @@ use Rattle.site_memory.specs.declared.machine.MemSite.{MemSite}
 use Rattle.site_model.specs.Told.{Made}
 use Rattle.mirrored_nets.specs.Goings.{IsBrought, IsSet, ms_of}
 use Rattle.mirrored_nets.specs.Mirrors.{Mirrors}
-use Rattle.mirrored_nets.specs.StruckTurns.{IsToldOf}
+use Rattle.mirrored_nets.specs.ToldMachines.{IsToldOf}
 use Rattle.mirrored_nets.specs.Took.{Adds, HasRoom, IsTriedLine}
-use Rattle.mirrored_nets.specs.declared.judged.Armed.{Armed}
+use Rattle.mirrored_nets.specs.declared.armed.Armed.{Armed}
 use Rattle.call_readings.specs.Reads.{ReadsTurn}
 
 -- The node is up in a net that mirrors a world; its connection brings this input, before whose first step so many calls come, and its machine was

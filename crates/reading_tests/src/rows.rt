@@ -2,7 +2,7 @@
 //! capital one failed. A record's append is `wsws`.
 
 use call_readings::became::Became;
-use mirrored_nets::judged::Armed;
+use mirrored_nets::armed::Armed;
 use read_calls::reading::{Named, Reading, read};
 use site_memory::arm::Choice;
 use site_memory::entry::{Deed, Entry};

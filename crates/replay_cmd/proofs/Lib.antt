@@ -2,12 +2,6 @@ pub mod PaddedLists
 pub mod Loops
 pub mod Marks
 pub mod ReplayableSchedules
-pub mod RestEvents
-pub mod ReplayRuns
-mod EventLines
-mod LineDraws
-mod TakenLines
+pub mod MadeRuns
+mod ReadLines
 mod EventCounts
-pub mod EventFiles
-pub mod NodeFiles
-pub mod EventWorlds

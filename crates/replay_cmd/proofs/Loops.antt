@@ -1,14 +1,14 @@
--- The loops of a replay, one time after another.
+-- The loops of the schedule of a seed, one time after another.
 use Rattle.std.proofs.Common.{ℕ, zero, suc, ◌+◌, ◌-◌, ◌<◌, ◌≡◌, ◌++◌, ◌∷◌, List, refl, [], length, ap, ◌∙◌, sym, arith}
 use Rattle.std.proofs.lemmas.List.{map-append}
 use Rattle.std.specs.Prelude.{Some, None, map}
 use Rattle.at_model.specs.Views.{up}
-use Rattle.at_model.specs.World.{opening, run_of, example_hosts}
+use Rattle.at_model.specs.World.{opening, example_hosts}
 use Rattle.world_laws.specs.Events.{event_of}
 use Rattle.world_laws.specs.declared.event.WorldEvent.{WorldEvent as Given}
 use Rattle.world_laws.specs.Runs.{Run, world_of}
 use Rattle.replay_cmd.specs.Deliveries.{lowest}
-use Rattle.replay_cmd.specs.ReportOf.{Course, all_up, delivers, delivers_where, flushes, happens}
+use Rattle.replay_cmd.specs.MadeCourses.{Course, all_up, delivers, delivers_where, flushes, happens}
 
 pub opened : (r : Run) (count : ℕ) → r ≡ record { count = count; events = [] } → world_of r ≡ opening (example_hosts count)
 unfolding world_of
@@ -19,10 +19,6 @@ none_yet r count h = ap (λ (x : Run). map event_of x.events) h
 
 pub one_more : (r : Run) (count : ℕ) (events : List Given) (e : Given) → r ≡ record { count = count; events = events ++ e ∷ [] } → map event_of r.events ≡ map event_of events ++ event_of e ∷ []
 one_more r count events e h = ap (λ (x : Run). map event_of x.events) h ∙ map-append event_of events (e ∷ [])
-
-pub run_is : (r : Run) → world_of r ≡ run_of (example_hosts r.count) (map event_of r.events)
-unfolding world_of
-run_is r = refl
 
 pub flush_more :
     (m t k : ℕ) (c : Course) → t < m → Some k ≡ lowest (length c.world.posted) 1 c.delivered

@@ -1,9 +1,6 @@
 pub mod Deliveries
-pub mod Examples
-pub mod Rests
 pub mod Laws
 pub mod Lines
+pub mod MadeCourses
 pub mod ReportOf
-pub mod EventCounts
-pub mod EventFiles
-pub mod Happenings
+pub mod ScheduleLines

@@ -1,16 +1,12 @@
 //! Which call is armed at each node.
 
-ghost use Rattle.std.specs.Prelude.{ℕ, ◌≡◌, ◌-◌, IfOk, slice_set};
-ghost use Rattle.armed_calls.specs.Faults.{armed_behind, still_armed};
-ghost use Rattle.replay_cmd.specs.Rests.{rest_of};
+ghost use Rattle.std.specs.Prelude.{◌≡◌, ◌-◌, IfOk, slice_set};
+ghost use Rattle.armed_calls.specs.Faults.{still_armed};
 ghost use Rattle.replay_cmd.specs.ReportOf.{armed_at, nobody_armed};
-ghost use Rattle.world_laws.specs.Events.{event_of};
 
-use crate::struck_events::START_CALLS;
 use armed_calls::fault::Armed;
 use std::alloc::{AllocError, Global};
 use std::marker::Model;
-use world_laws::event::WorldEvent;
 
 /// Which call is armed at each node, from node 1 on.
 #[derive(Debug, Drop)]
@@ -70,47 +66,4 @@ pub fn still_armed(armed: Armed, left: u32) -> Option<Armed>
         call: left,
         fault: armed.fault,
     })
-}
-
-/// What is armed behind an event, as far as it is known before it.
-#[derive(Clone, Copy, Debug)]
-pub enum Rest {
-    /// This.
-    Known { armed: Option<Armed> },
-    /// What the steps of the event leave of this.
-    Steps { armed: Armed },
-}
-
-/// What is known of that. `first` is whether the event's first step has a record, none where it takes no step.
-pub fn known_rest(armed: Armed, was_up: bool, first: Option<bool>, event: &WorldEvent) -> Rest
-    ensures { (left : ℕ) → rest_of result left ≡ armed_behind armed was_up first left (event_of event.now) }
-{
-    match event {
-        WorldEvent::Turn { .. } | WorldEvent::Ask { .. } => match first {
-            None => Rest::Known { armed: Some(armed) },
-            Some(_) => Rest::Steps { armed },
-        },
-        WorldEvent::Crash { .. } => Rest::Known {
-            armed: if was_up { None } else { Some(armed) },
-        },
-        WorldEvent::Up { .. } => Rest::Known {
-            armed: if was_up {
-                Some(armed)
-            } else {
-                still_armed(armed, armed.call.saturating_sub(START_CALLS))
-            },
-        },
-    }
-}
-
-impl Rest {
-    /// What is armed behind the event, whose steps left so many fates.
-    pub fn behind(self, left: usize) -> Option<Armed>
-        ensures { result ≡ rest_of self left }
-    {
-        match self {
-            Rest::Known { armed } => armed,
-            Rest::Steps { armed } => still_armed(armed, left.min(armed.call as usize) as u32),
-        }
-    }
 }

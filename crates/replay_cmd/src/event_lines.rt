@@ -74,7 +74,7 @@ fn push_refusal(
 }
 
 /// What the world shows of an event's result before it happens.
-pub(crate) fn push_before(
+pub fn push_before(
     alloc: Global,
     lines: &mut Lines,
     world: &World,
@@ -105,7 +105,7 @@ pub enum Behind {
 }
 
 /// What of an event's result is seen once it has happened.
-pub(crate) fn behind_of(world: &World, event: &WorldEvent) -> Behind
+pub fn behind_of(world: &World, event: &WorldEvent) -> Behind
     ensures { result ≡ behind_of (world_of world.now) (event_of event.now) }
 {
     match event {
@@ -173,7 +173,7 @@ fn push_result(
 }
 
 /// Adds what is printed of an event, from behind what the world showed before it.
-pub(crate) fn push_event(
+pub fn push_event(
     alloc: Global,
     lines: &mut Lines,
     node: u8,

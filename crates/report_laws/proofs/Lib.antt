@@ -1,2 +1,11 @@
+mod AlikeHosts
+mod AlikeLines
+mod AlikePlays
+mod Beginnings
 mod DrawnThings
+mod NodeLaws
 mod Reports
+mod SameStarts
+mod SameSteps
+mod SameTurns
+mod StartedWorlds

@@ -1,1 +1,2 @@
+pub mod AlikeNets
 pub mod Laws

@@ -1,4 +1,2 @@
 pub mod PrintedTexts
 pub mod PrintedLines
-mod MovedEffects
-mod ReportedEffects

@@ -6,7 +6,6 @@ use Rattle.std.specs.List.{AllByRecursion}
 use Rattle.std.proofs.lemmas.Bool.Decides.{nat_tests}
 use Rattle.std.proofs.lemmas.List.{map-append}
 use Rattle.armed_calls.specs.declared.fault.Fault.{Fault}
-use Rattle.armed_calls.specs.declared.meeting.Meeting.{Meeting}
 use Rattle.at_base.specs.IdText.{hyphen, id_text}
 use Rattle.at_base.specs.Numbers.{Numbers}
 use Rattle.at_base.specs.declared.event.Local.{Local}
@@ -25,12 +24,11 @@ use Rattle.at_model.specs.Views.{line_of}
 use Rattle.at_model.specs.World.{World, WorldEvent, Posted, Turn, Ask, Crash, Up, Deliver, Tick, Raw, happened_at, node_of}
 use Rattle.effect_words.specs.Words.{ending_word, refusal_word, told_word}
 use Rattle.fated_walks.specs.Statuses.{status_in}
-use Rattle.followed_events.specs.Meetings.{world_behind}
 use Rattle.world_laws.specs.Moves.{steps_of}
 use Rattle.world_laws.specs.Runs.{book_at, clock_at, incarnation_at}
 use Rattle.world_laws.specs.declared.posts.Counted.{Counted}
 use Rattle.replay_cmd.specs.Lines.{deliver_line, down_line, effect_line, end_line, forged_line, inject_line, item_line, leaf_words, message_line, message_start, no_message_line, outcome_word, refused_line, start_word, tick_line, up_already_line, up_line}
-use Rattle.replay_cmd.specs.ReportOf.{effect_lines, event_lines, losses_by, message_lines, or_zero, outcome_of, own_count, request_result, result_line, start_result, started_by, step_lines, unless_taken}
+use Rattle.replay_cmd.specs.ReportOf.{effect_lines, message_lines, or_zero, outcome_of, own_count, request_result, result_line, start_result, started_by, step_lines, unless_taken}
 use Rattle.replay_cmd.specs.declared.lines.Outcome.{Outcome}
 use Rattle.replay_cmd.specs.declared.lines.Outcome.TheVariants as outcomes
 use Rattle.replay_cmd.specs.declared.lines.Started.{Started}
@@ -245,15 +243,13 @@ result_says f s (Turn n (Tick ms) fates until) w v os =
 result_says f s (Turn n Raw fates until) w v os = inject_says n (outcome_of f (incarnation_at w n) (incarnation_at v n) s)
 result_says f s (Ask n l fates until) w v os = request_says l (book_at w n)
 
--- all that is printed of an event
-pub event_says : (met : Meeting) (f : Option Fault) (s : ℕ) (w : World) (e : WorldEvent)
-    → AllByRecursion IsOnOneLine (drop (length w.posted) (world_behind met w e).posted)
-    → Says (event_lines met f s w e) (map (happened_at (node_of e)) (effects_in (steps_of w e) ++ losses_by met w e))
-event_says met f s w e h =
-    rw (map-append (happened_at (node_of e)) (effects_in (steps_of w e)) (losses_by met w e))
-    (says_both (result_line f s e w (world_behind met w e) (steps_of w e)) _ [] _ (result_says f s e w (world_behind met w e) (steps_of w e))
-    (says_both (step_lines (node_of e) (length w.posted + 1) (drop (length w.posted) (world_behind met w e).posted) (steps_of w e))
-    (effect_lines (node_of e) (losses_by met w e))
-    (map (happened_at (node_of e)) (effects_in (steps_of w e))) (map (happened_at (node_of e)) (losses_by met w e))
-    (steps_say (node_of e) (length w.posted + 1) (drop (length w.posted) (world_behind met w e).posted) (steps_of w e) h)
-    (effects_say (node_of e) (losses_by met w e))))
+-- all that is printed of an event that leads to a world, and of what its node lost as it went down
+pub event_says : (f : Option Fault) (s : ℕ) (w v : World) (e : WorldEvent) (lost : List Effect) → AllByRecursion IsOnOneLine (drop (length w.posted) v.posted)
+    → Says (result_line f s e w v (steps_of w e) ++ (step_lines (node_of e) (length w.posted + 1) (drop (length w.posted) v.posted) (steps_of w e) ++ effect_lines (node_of e) lost))
+    (map (happened_at (node_of e)) (effects_in (steps_of w e) ++ lost))
+event_says f s w v e lost h =
+    rw (map-append (happened_at (node_of e)) (effects_in (steps_of w e)) lost)
+    (says_both (result_line f s e w v (steps_of w e)) _ [] _ (result_says f s e w v (steps_of w e))
+    (says_both (step_lines (node_of e) (length w.posted + 1) (drop (length w.posted) v.posted) (steps_of w e)) (effect_lines (node_of e) lost)
+    (map (happened_at (node_of e)) (effects_in (steps_of w e))) (map (happened_at (node_of e)) lost)
+    (steps_say (node_of e) (length w.posted + 1) (drop (length w.posted) v.posted) (steps_of w e) h) (effects_say (node_of e) lost)))

@@ -1,13 +1,10 @@
 -- Which lines of a printed text tell how something ended, and what it then is that a text tells what happened.
-use Rattle.std.specs.Prelude.{ℕ, List, ◌++◌, Bool, false, ◌||◌, ◌==◌, ◌≡◌, Option, bytes_eq, codes, filter, length, map, take}
-use Rattle.std.specs.List.{AllByRecursion, list_any}
+use Rattle.std.specs.Prelude.{ℕ, List, ◌++◌, Bool, false, ◌||◌, ◌==◌, ◌≡◌, bytes_eq, codes, filter, length, map, take}
+use Rattle.std.specs.List.{list_any}
 use Rattle.at_model.specs.Views.{line_of}
 use Rattle.at_model.specs.World.{Happened, Posted}
-use Rattle.raw_requests.specs.declared.Drawn.{Drawn}
 use Rattle.replay_cmd.specs.Lines.{effect_line}
-use Rattle.replay_cmd.specs.ReportOf.{report_with, world_with}
 use Rattle.schedules.specs.Words.{lines_of}
-use Rattle.schedules.specs.declared.line.Line.{Line}
 
 -- a line that begins so
 abbrev pub begins : List ℕ → List ℕ → Bool
@@ -41,9 +38,3 @@ IsUnbroken text = list_any (λ b. b == 10) text ≡ false
 pub record IsOnOneLine (p : Posted) : Type 0 where
   pub name : IsUnbroken (line_of p).name
   pub path : IsUnbroken (line_of p).path
-
--- So it is of a report, also where its world is brought to rest, whose messages have such names and paths.
-abbrev pub ReportsTell : Type 0
-ReportsTell =
-    (settle : Bool) (draws : List (Option Drawn)) (all : List Line) → AllByRecursion IsOnOneLine (world_with settle draws all).posted
-    → Tells (report_with settle draws all) (world_with settle draws all).happened

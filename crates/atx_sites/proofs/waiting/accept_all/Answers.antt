@@ -16,7 +16,7 @@ returns-in-Err-clause-later g c = later_still _ _ _ c.accepted.invariant.1 c.acc
 
 pub accepted-preserved : goal.accepted-preserved
 accepted-preserved g c = (
-  (λ h. c.begin.ensures.came (g.S.Listener.AsRawFd.raw_fd c.args.listener.now) (came_if g.S.Stream.AsRawFd.raw_fd _ _ _ _ c.in-Ok-Some.ensures.came c.in-Ok-Some.field-0-is)
+  (λ h. c.begin.ensures.came (g.S.Listener.AsRawFd.raw_fd c.args.listener.now) (came_if g.S.Stream.AsRawFd.raw_fd _ _ _ _ _ c.in-Ok-Some.ensures.came c.in-Ok-Some.field-0-is)
       (have_still g.S.Stream.AsRawFd.raw_fd (g.S.Listener.AsRawFd.raw_fd c.args.listener.now) _ _ _ (c.accepted.invariant.0 h) c.accept_one.ensures.later)),
   later_still _ _ _ (later_still _ _ _ c.accepted.invariant.1 c.accept_one.ensures.later) c.begin.ensures.later,
   (λ h. c.begin.ensures.bounded (c.accepted.invariant.2 h)),

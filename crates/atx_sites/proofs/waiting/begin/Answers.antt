@@ -7,7 +7,7 @@ pub returns-clause-came : goal.returns-clause-came
 returns-clause-came g c = λ listener first h.
     let number = g.S.Stream.AsRawFd.raw_fd in
     c.keep.ensures.came number listener _ (have_still number listener _ _ _ h c.hear.ensures.later)
-    (c.hear.ensures.came listener (came_new number listener _ c.args.stream c.new-arriving.result first c.new-arriving.ensures.stream c.new-arriving.ensures.bytes))
+    (c.hear.ensures.came listener (came_new number listener _ c.args.stream c.args.peer c.new-arriving.result first c.new-arriving.ensures.stream c.new-arriving.ensures.bytes))
 
 pub returns-clause-changes : goal.returns-clause-changes
 returns-clause-changes g c = λ first start clock h.

@@ -1,5 +1,5 @@
 use Rattle.command_line.specs.Views.{meant_filter}
-use Rattle.command_line.proofs.Reports.{all_given, all_printed, none_given, part_printed}
+use Rattle.command_line.proofs.Reports.{all_given, all_printed, none_given, part_printed, undone_so}
 use Rattle.command_line.proofs.run.filter.Goals as goal
 
 pub returns-in-Ok-report-clause-whole : goal.returns-in-Ok-report-clause-whole
@@ -18,3 +18,7 @@ returns-in-Ok-report-clause-cut g c = λ failed.
 pub returns-in-Err-Full-clause-full : goal.returns-in-Err-Full-clause-full
 returns-in-Err-Full-clause-full g c = λ is.
     none_given _ _ _ _ _ (meant_filter c.args.filter.now) c.in-Ok.ensures.whole c.as_slice.ensures.value (c.in-Err-Full.ensures.full c.in-Err-Full.field-0-is)
+
+pub returns-clause-report : goal.returns-clause-report
+returns-clause-report g c = λ input given few read wrote.
+    undone_so (meant_filter c.args.filter.now) input (g.K.Sink.contents c.args.sink.now) c.in-Err-TooManyEvents.field-0 c.in-Err-TooManyEvents.field-0-is c.in-Err-TooManyEvents.ensures.memory

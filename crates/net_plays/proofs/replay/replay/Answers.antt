@@ -15,4 +15,4 @@ returns-clause-report c =
       superior = c.enlists_under_one.ensures;
       made = c.makes_no_id_twice.ensures;
       settles = c.settles.ensures;
-    }) c.args.options c.args.schedule.now c.in_ok-replayed.replayed.lines c.in_ok-play.play c.requires c.in_ok-play.ensures.done c.is_played.ensures c.in_ok-replayed.ensures.lines c.in_ok-replayed.ensures.few)
+    }) c.args.options c.args.schedule.now c.in_ok-replayed.replayed.lines c.in_ok-play.play c.requires.replayable c.in_ok-play.ensures.done c.is_played.ensures c.in_ok-replayed.ensures.lines c.in_ok-replayed.ensures.few)

@@ -1,7 +1,7 @@
 use Rattle.std.proofs.Common.{ap, arith, inl, inr, subst, sym, ◌-◌, ◌<◌, ◌≤◌, ◌⊎◌, ◌∙◌, false}
 use Rattle.node_events.specs.NodeEvents.{struck}
 use Rattle.site_memory.specs.Entries.{mades}
-use Rattle.mirrored_nets.specs.TookAnew.{before_anew}
+use Rattle.mirrored_nets.specs.AnewCalls.{before_anew}
 use Rattle.read_calls.proofs.EntryRows.{long_is, none_is, some_is}
 use Rattle.read_calls.proofs.NamedFates.{append_named, bare_named, none_named}
 use Rattle.read_calls.proofs.reading.failed_fates.Goals as goal

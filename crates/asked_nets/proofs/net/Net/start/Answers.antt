@@ -3,7 +3,7 @@ use Rattle.std.specs.Prelude.{Some, false}
 use Rattle.at_model.specs.World.{Up, nth}
 use Rattle.mirrored_nets.specs.DueStarts.{CanBegin}
 use Rattle.mirrored_nets.specs.Seen.{Seen}
-use Rattle.mirrored_nets.specs.StruckStarts.{IsStanding}
+use Rattle.mirrored_nets.specs.LeftStarts.{IsStanding}
 use Rattle.mirrored_nets.proofs.DueStarts.{same_begin}
 use Rattle.mirrored_nets.proofs.NetEvents.{serve_on}
 use Rattle.mirrored_nets.proofs.OpenedNets.{there_ready}

@@ -6,7 +6,7 @@ use Rattle.memory_net.specs.declared.host.Host.{Host}
 use Rattle.memory_net.specs.declared.letter.Letter.{Letter}
 use Rattle.world_laws.specs.Events.{input_of}
 use Rattle.mirrored_nets.specs.Goings.{IsBrought, ms_of}
-use Rattle.mirrored_nets.specs.PossibleMoves.{MayCome}
+use Rattle.mirrored_nets.specs.MayCome.{MayCome}
 use Rattle.mirrored_nets.specs.Seen.{Seen}
 use Rattle.mirrored_nets.proofs.BroughtLines.{clock_fits}
 use Rattle.mirrored_nets.proofs.NetEvents.{room_set, serve_on}

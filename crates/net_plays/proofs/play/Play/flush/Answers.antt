@@ -1,5 +1,7 @@
 use Rattle.std.proofs.Common.{rules, subst, sym, ◌≡◌}
 use Rattle.net_plays.specs.PlayedLines.{Delivers, Flushes}
+use Rattle.net_plays.specs.Plays.{HasBegun}
+use Rattle.net_plays.proofs.AskedLines.{delivery_on}
 use Rattle.net_plays.proofs.PlayedEvents.{flush_next, flush_none}
 use Rattle.net_plays.specs.Stops.Why.{HasMany, IsFull}
 use Rattle.net_plays.specs.declared.play_error.PlayError.TheVariants.{Full, TooManyEvents}
@@ -16,7 +18,11 @@ loop-time-preserved c = (
       (subst (λ p. Delivers c.in-Some.number p c.in_ok-play.play) c.in-Some.ensures.kept c.in_ok-play.ensures.done) c.loop-time.invariant.0,
   λ why. flush_stops_next why c.args.most c.loop-time._time c.in-Some.number c.args.self c.loop-time.play _ c.in_ok-play.play c.loop-time-test.true c.in-Some.ensures.lowest c.in-Some.ensures.kept
       c.in_ok-play.ensures.done (c.loop-time.invariant.1 why),
+  delivery_on c.in-Some.number _ c.loop-time.play c.in_ok-play.play c.in-Some.ensures.kept c.in_ok-play.ensures.done c.loop-time.invariant.2,
 )
+
+pub deliver-requires : goal.deliver-requires
+deliver-requires c = subst HasBegun (sym c.in-Some.ensures.kept) c.loop-time.invariant.2
 
 pub returns-in_err-play-clause-full : goal.returns-in_err-play-clause-full
 returns-in_err-play-clause-full c =

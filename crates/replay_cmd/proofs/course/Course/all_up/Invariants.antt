@@ -1,5 +1,5 @@
 use Rattle.std.specs.Prelude.{◌≡◌, ◌+◌, ◌-◌}
-use Rattle.replay_cmd.specs.ReportOf.{all_up}
+use Rattle.replay_cmd.specs.MadeCourses.{all_up}
 use Rattle.replay_cmd.proofs.course.Course.all_up.Given as goal
 
 abbrev pub invariant-loop-place : goal.invariant-loop-place

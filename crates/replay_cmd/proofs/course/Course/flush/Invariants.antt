@@ -1,5 +1,5 @@
 use Rattle.std.specs.Prelude.{◌≡◌, ◌-◌}
-use Rattle.replay_cmd.specs.ReportOf.{flushes}
+use Rattle.replay_cmd.specs.MadeCourses.{flushes}
 use Rattle.replay_cmd.proofs.course.Course.flush.Given as goal
 
 abbrev pub invariant-loop-time : goal.invariant-loop-time

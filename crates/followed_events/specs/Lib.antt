@@ -1,2 +1,0 @@
-pub mod FollowedEvents
-pub mod Meetings

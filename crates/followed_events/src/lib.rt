@@ -1,2 +1,0 @@
-//! Definitions alone: what is followed of a node's journal through the events of a world.
-#![tactic(auto)]

@@ -1,2 +1,0 @@
-pub mod NetsFollow
-pub mod MovesFollow

@@ -1,4 +1,0 @@
-mod TestChains
-mod RecordPlaces
-mod RecordSizes
-mod GrownFiles

@@ -1,4 +1,0 @@
-pub mod Examples
-pub mod Growth
-pub mod LiveFiles
-pub mod Rewritings

@@ -1,4 +1,0 @@
-pub mod FollowedNets
-pub mod ReportedNets
-pub mod TellingReports
-mod AgreeingReports

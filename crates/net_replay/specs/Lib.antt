@@ -1,3 +1,0 @@
-pub mod MessageBytes
-pub mod NetRuns
-pub mod NetReports

@@ -1,2 +1,0 @@
-pub mod ScheduleLines
-pub mod PossibleCourses

@@ -1,2 +1,0 @@
-pub mod BroughtBytes
-pub mod PossibleEvents
