@@ -30,6 +30,7 @@ struct Options {
     counts_turns: bool,
     logs: bool,
     shows: bool,
+    hears_ticks: bool,
 }
 
 /// Whether a word is this option, alone or with its value behind `=`.
@@ -46,11 +47,14 @@ fn read_options(words: io::Result<Args>) -> io::Result<Options> {
         counts_turns: false,
         logs: false,
         shows: false,
+        hears_ticks: false,
     };
     for word in words? {
         options.counts_turns = options.counts_turns || is_option(word.as_str(), "--turns");
         options.logs = options.logs || is_option(word.as_str(), "--log");
         options.shows = options.shows || is_option(word.as_str(), "--status");
+        options.hears_ticks =
+            options.hears_ticks || is_option(word.as_str(), "--tick-from-anywhere");
     }
     Ok(options)
 }
@@ -83,7 +87,8 @@ fn tell<S: System + Drop, E: Sink>(
     }
 }
 
-/// The machine has a timer of its own unless turns are counted, and a log and pages where they are asked for.
+/// The machine has a timer of its own unless turns are counted, and a log, pages, and ticks of other machines where they are asked
+/// for.
 fn main(rt: HostRuntime) -> ExitCode {
     let mut machine = NodeSite::new(rt.alloc(), RealSystem::new(&rt));
     let mut log = None;
@@ -94,6 +99,9 @@ fn main(rt: HostRuntime) -> ExitCode {
             }
             if options.shows {
                 machine.show_pages();
+            }
+            if options.hears_ticks {
+                machine.hear_ticks();
             }
             if options.logs {
                 log = Some(Log::new(rt.alloc(), Writing::new(rt.stderr(), 0), &rt));

@@ -9,6 +9,7 @@ ghost use Rattle.atx_sites.specs.LinkCalls.{Later};
 use crate::deadlines::{has_passed, left};
 use crate::framing::{Progress, Stage, come_to};
 use crate::pages::page_of;
+use crate::ticks::asks_tick;
 use httparse::spans::HeaderSpan;
 use libc::net::{POLLIN, POLLOUT};
 use libc::types::pollfd;
@@ -104,6 +105,11 @@ impl<C> Arriving<C> {
     /// Whether a web page sent it.
     pub(crate) fn is_foreign(&self) -> bool {
         self.progress.stage == Stage::Foreign
+    }
+
+    /// Whether it asks for a tick, and comes from another machine than the node's own.
+    pub(crate) fn is_strange_tick(&self) -> bool {
+        !self.peer.ip().to_canonical().is_loopback() && asks_tick(self.bytes.as_slice())
     }
 
     /// Whether its request is whole, and asks for a page.

@@ -132,11 +132,11 @@ pub(crate) fn listen<S: System>(
     }
 }
 
-/// What a web page is answered.
+/// What who is refused is answered.
 const FORBIDDEN: &[u8] =
     b"HTTP/1.1 403 Forbidden\r\nContent-Length: 0\r\nConnection: close\r\n\r\n";
 
-/// Answers a web page 403, and closes its connection behind that.
+/// Answers 403, and closes the connection behind that.
 fn refuse<S: System>(
     system: &mut S,
     departures: &mut Departures<S::Stream>,
@@ -155,7 +155,7 @@ fn refuse<S: System>(
     }
 }
 
-/// The first whose turn may come. A web page's has none, and is answered.
+/// The first whose turn may come. One that is refused has none, and is answered.
 #[tactic(auto, using(crate::proofs::Comings::as_late, crate::proofs::Comings::have_still))]
 fn next<S: System>(
     system: &mut S,
@@ -178,10 +178,9 @@ fn next<S: System>(
     let Some(ready) = waiting.ready(now, false) else {
         return None;
     };
-    if !ready.is_foreign() {
+    if !waiting.refuses(&ready) {
         return Some(ready);
     }
-    waiting.foreign = waiting.foreign.saturating_add(1);
     refuse(system, departures, waiting.alloc(), ready);
     None
 }

@@ -20,5 +20,6 @@ mod resends;
 pub mod resolved_names;
 mod showing;
 mod spares;
+mod ticks;
 pub mod troubles;
 pub mod waiting;

@@ -158,6 +158,11 @@ impl<S: System + Drop> NodeSite<S> {
         self.connection.waiting.shows = true;
     }
 
+    /// From now on a tick is taken from any machine; without this, from the node's own alone (by its loopback), and others are answered 403.
+    pub fn hear_ticks(&mut self) {
+        self.connection.waiting.hears_ticks = true;
+    }
+
     /// Lets go out what still leaves, each until its own time is over.
     pub fn leave(&mut self)
         ensures shut { self.new.connection.served ≡ None }

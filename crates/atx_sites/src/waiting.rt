@@ -27,6 +27,9 @@ use system_calls::system::System;
 /// The most connections that are read aside.
 pub(crate) const MOST: usize = 1024;
 
+/// The most of them that come from one address of another machine: no peer alone keeps others away.
+const MOST_OF_PEER: usize = MOST / 4;
+
 /// The most bytes that are read aside of all connections.
 const MOST_BYTES: usize = 67_108_864;
 
@@ -48,6 +51,8 @@ pub struct Waiting<C> {
     pub(crate) looked: Looked,
     /// Whether pages are shown: then who asks for one has no turn.
     pub(crate) shows: bool,
+    /// Whether a tick is taken from any machine.
+    pub(crate) hears_ticks: bool,
     /// How many web pages were refused.
     pub(crate) foreign: u64,
 }
@@ -92,6 +97,7 @@ impl<C: AsRawFd + Drop> Waiting<C> {
             pause: None,
             looked: Looked::new(),
             shows: false,
+            hears_ticks: false,
             foreign: 0,
         }
     }
@@ -155,6 +161,18 @@ impl<C: AsRawFd + Drop> Waiting<C> {
         Ok(())
     }
 
+    /// Whether a connection is refused instead of having a turn: a web page's, and a tick of another machine, unless such are taken.
+    /// Web pages are counted.
+    pub(crate) fn refuses(&mut self, arriving: &Arriving<C>) -> bool
+        ensures { self.new ≡ record self.old { foreign = self.new.foreign } }
+    {
+        if arriving.is_foreign() {
+            self.foreign = self.foreign.saturating_add(1);
+            return true;
+        }
+        !self.hears_ticks && arriving.is_strange_tick()
+    }
+
     /// Closes those whose time is over without a byte.
     fn close_silent(&mut self, now: Duration)
         ensures { self.new.arriving.items ≡ filter (λ a. not (is_silent now a)) self.old.arriving.items }
@@ -198,6 +216,21 @@ impl<C: AsRawFd + Drop> Waiting<C> {
         MOST_BYTES.saturating_sub(bytes)
     }
 
+    /// Whether as many come from this address as may: there is no such bound on the node's own machine.
+    fn is_much(&self, peer: SocketAddr) -> bool {
+        let from = peer.ip().to_canonical();
+        if from.is_loopback() {
+            return false;
+        }
+        let mut count = 0usize;
+        for arriving in self.arriving.iter() {
+            if arriving.peer.ip().to_canonical() == from {
+                count = count.saturating_add(1);
+            }
+        }
+        count >= MOST_OF_PEER
+    }
+
     /// Makes room for one more: where too many wait, the oldest whose turn can't come yet is closed. Whether there is some.
     #[tactic(auto, using(crate::proofs::Comings::have_removed))]
     fn has_room(&mut self, now: Duration) -> bool
@@ -218,13 +251,17 @@ impl<C: AsRawFd + Drop> Waiting<C> {
         }
     }
 
-    /// Keeps one more, where there is room and memory for it, and where all have not too many bytes then.
+    /// Keeps one more, where not too many come from its address, where there is room and memory for it, and where all have not too
+    /// many bytes then.
     #[tactic(auto, using(crate::proofs::Comings::have_pushed))]
     fn keep(&mut self, arriving: Arriving<C>, now: Duration)
         ensures came { (number : C → Number) (listener : Number) (calls : Calls) → HaveCome number listener calls self.old.arriving.items → HasCome number listener calls arriving → HaveCome number listener calls self.new.arriving.items }
         ensures bounded { Bounded self.old.arriving.items → size_of arriving ≤ 131_072 → Bounded self.new.arriving.items }
         ensures changes { (first : List (Arriving C)) (start calls : Calls) → ReadsClock now start calls → HasTen now arriving → Changes first start self.old.arriving.items calls → Changes first start self.new.arriving.items calls }
     {
+        if self.is_much(arriving.peer) {
+            return;
+        }
         if self.has_room(now) && arriving.bytes.len() <= self.room() {
             let _ = self.arriving.push(arriving);
         }

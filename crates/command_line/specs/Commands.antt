@@ -80,9 +80,9 @@ abbrev pub silent : Text → App
 silent name =
     with_rule (with_rule (with_rule (with_rule (new_app name) (wanted (codes "listen"))) (valued (codes "base"))) (wanted (codes "journal"))) (valued (codes "turns"))
 
--- `NAME --listen ADDR [--base URL] --journal F [--turns N] [--log]`
+-- `NAME --listen ADDR [--base URL] --journal F [--turns N] [--log] [--status] [--tick-from-anywhere]`
 abbrev pub serving : Text → App
-serving name = with_rule (with_rule (silent name) (flag (codes "log"))) (flag (codes "status"))
+serving name = with_rule (with_rule (with_rule (silent name) (flag (codes "log"))) (flag (codes "status"))) (flag (codes "tick-from-anywhere"))
 
 -- with the command that posts
 abbrev pub posting : App

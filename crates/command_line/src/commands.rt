@@ -222,6 +222,14 @@ fn status<'a>(alloc: Global) -> Arg<'a>
     flag(alloc, "status").help("Show what the node is and holds at /, /status and /healthz")
 }
 
+/// `--tick-from-anywhere`.
+fn tick_from_anywhere<'a>(alloc: Global) -> Arg<'a>
+    ensures rule { rule_of result ≡ flag (codes "tick-from-anywhere") }
+    ensures local { result.global ≡ false }
+{
+    flag(alloc, "tick-from-anywhere").help("Take a tick from any machine, not from this one alone")
+}
+
 /// `NAME --listen ADDR [--base URL] --journal F [--turns N]`.
 fn silent<'a>(alloc: Global, name: &'a str, about: &'a str) -> Result<Command<'a>, AllocError>
     ensures { IfOk result (IsCommand (silent name.entry.now)) }
@@ -234,13 +242,14 @@ fn silent<'a>(alloc: Global, name: &'a str, about: &'a str) -> Result<Command<'a
         .arg(turns(alloc))
 }
 
-/// With `--log` and `--status`.
+/// With `--log`, `--status` and `--tick-from-anywhere`.
 fn serving<'a>(alloc: Global, name: &'a str, about: &'a str) -> Result<Command<'a>, AllocError>
     ensures { IfOk result (IsCommand (serving name.entry.now)) }
 {
     silent(alloc, name, about)?
         .arg(log(alloc))?
-        .arg(status(alloc))
+        .arg(status(alloc))?
+        .arg(tick_from_anywhere(alloc))
 }
 
 /// `coordinator ..`.

@@ -50,7 +50,8 @@ pub enum Role {
     Initiator,
 }
 
-/// A node that serves: `ROLE --listen ADDR [--base URL] --journal F [--turns N] [--log] [--status]`. The log and the status are its machine's.
+/// A node that serves: `ROLE --listen ADDR [--base URL] --journal F [--turns N] [--log] [--status]
+    /// [--tick-from-anywhere]`. The last three are its machine's.
 #[derive(Clone, Copy, Debug, PartialEq, Eq)]
 pub struct Serving<'a> {
     pub role: Role,
