@@ -9,3 +9,5 @@ mod files;
 mod links;
 #[cfg(test)]
 mod posts;
+#[cfg(test)]
+mod strangers;

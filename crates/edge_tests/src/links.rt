@@ -8,6 +8,7 @@ use shown_pages::showing::Showing;
 use site_model::site::{Site, Taken};
 use site_model::source::Failed;
 use std::alloc::{AllocError, Global};
+use std::net::SocketAddr;
 use std::test::Fail;
 use std::time::Duration;
 use system_memory::memory::MemorySystem;
@@ -45,19 +46,35 @@ fn each(name: Name, n: usize, every: usize, act: Act) -> Rule {
 }
 
 /// The time so many milliseconds behind the start.
-fn at(millis: u64) -> Duration {
+pub(crate) fn at(millis: u64) -> Duration {
     start().saturating_add(Duration::from_millis(millis))
 }
 
-/// A peer that comes, and sends these bytes at a time.
-fn sender(alloc: Global, comes: u64, sends: u64, bytes: &[u8]) -> Result<Peer, AllocError> {
-    let mut peer = Peer::coming(alloc, address(1), at(comes));
+/// A peer that comes from there, and sends these bytes at a time.
+pub(crate) fn sender_of(
+    alloc: Global,
+    from: SocketAddr,
+    comes: u64,
+    sends: u64,
+    bytes: &[u8],
+) -> Result<Peer, AllocError> {
+    let mut peer = Peer::coming(alloc, from, at(comes));
     peer.sends(alloc, at(sends), bytes)?;
     Ok(peer)
 }
 
+/// A peer that comes, and sends these bytes at a time.
+fn sender(alloc: Global, comes: u64, sends: u64, bytes: &[u8]) -> Result<Peer, AllocError> {
+    sender_of(alloc, address(1), comes, sends, bytes)
+}
+
+/// One of eight addresses.
+fn one_of_eight(place: usize) -> SocketAddr {
+    address((place % 8) as u8)
+}
+
 /// Takes the next connection. Whether all that it brings until these bytes are there are these.
-fn hears<S: Site>(site: &mut S, bytes: &[u8]) -> bool {
+pub(crate) fn hears<S: Site>(site: &mut S, bytes: &[u8]) -> bool {
     if site.take() != Ok(Taken::Opened) {
         return false;
     }
@@ -457,8 +474,8 @@ fn crowded(alloc: Global) -> Result<bool, AllocError> {
     let mut world = world(alloc);
     world.peer(sender(alloc, 0, 1000, FRONT)?)?;
     world.peer(sender(alloc, 0, 2000, OTHER)?)?;
-    for _ in 1..MOST {
-        world.peer(Peer::coming(alloc, address(1), at(0)))?;
+    for place in 1..MOST {
+        world.peer(Peer::coming(alloc, one_of_eight(place), at(0)))?;
     }
     let mut system = MemorySystem::new(world);
     let mut site = NodeSite::new(alloc, &mut system);
@@ -496,8 +513,9 @@ fn part(alloc: Global) -> Result<Vec<u8>, AllocError> {
 fn heavy(alloc: Global) -> Result<World, AllocError> {
     let part = part(alloc)?;
     let mut world = world(alloc);
-    for _ in 0..=MOST_BYTES / PART_BYTES {
-        world.peer(sender(alloc, 0, 0, part.as_slice())?)?;
+    for place in 0..=MOST_BYTES / PART_BYTES {
+        let from = one_of_eight(place);
+        world.peer(sender_of(alloc, from, 0, 0, part.as_slice())?)?;
     }
     world.peer(sender(alloc, 10, 10, OTHER)?)?;
     Ok(world)
@@ -535,7 +553,7 @@ fn what_is_read_aside_has_a_bound(rt: HostRuntime) -> Result<(), Fail> {
 const PAGE: &[u8] =
     b"POST /a HTTP/1.1\r\nHost: 127.0.0.1:9\r\nORIGIN: http://evil.example\r\nContent-Length: 3\r\n\r\nyes";
 
-const FORBIDDEN: &[u8] =
+pub(crate) const FORBIDDEN: &[u8] =
     b"HTTP/1.1 403 Forbidden\r\nContent-Length: 0\r\nConnection: close\r\n\r\n";
 
 /// A page's request comes first; the next is served in its place, and the page is told that it may not.
