@@ -23,9 +23,14 @@ const TIMER_MILLIS: u64 = 1000;
 /// For so many seconds whoever takes what is printed may take nothing.
 const PATIENCE_SECONDS: u32 = 60;
 
+/// The commands that serve or post.
+const MACHINE_COMMANDS: [&str; 4] = ["coordinator", "participant", "initiator", "tick"];
+
 /// What of the words is the machine's own.
 #[derive(Clone, Copy)]
 struct Options {
+    /// A command serves or posts: then the machine wants its room.
+    wants_machine: bool,
     /// Turns are counted: then it has no timer.
     counts_turns: bool,
     logs: bool,
@@ -44,12 +49,14 @@ fn is_option(word: &str, option: &str) -> bool {
 /// The options among the words.
 fn read_options(words: io::Result<Args>) -> io::Result<Options> {
     let mut options = Options {
+        wants_machine: false,
         counts_turns: false,
         logs: false,
         shows: false,
         hears_ticks: false,
     };
     for word in words? {
+        options.wants_machine = options.wants_machine || MACHINE_COMMANDS.contains(&word.as_str());
         options.counts_turns = options.counts_turns || is_option(word.as_str(), "--turns");
         options.logs = options.logs || is_option(word.as_str(), "--log");
         options.shows = options.shows || is_option(word.as_str(), "--status");
@@ -64,6 +71,9 @@ const SINK_FAILED: u8 = 5;
 
 /// The disk failed, or the listener did.
 const MACHINE_FAILED: [u8; 2] = [6, 8];
+
+/// Want of memory.
+const NO_MEMORY: u8 = 9;
 
 /// Tells standard error why the program ends so, where no result says it.
 fn tell<S: System + Drop, E: Sink>(
@@ -87,13 +97,16 @@ fn tell<S: System + Drop, E: Sink>(
     }
 }
 
-/// The machine has a timer of its own unless turns are counted, and a log, pages, and ticks of other machines where they are asked
-/// for.
+/// The machine has its room before all else where a command wants it, a timer of its own unless turns are counted, and a log, pages
+/// and ticks of other machines where they are asked for.
 fn main(rt: HostRuntime) -> ExitCode {
     let mut machine = NodeSite::new(rt.alloc(), RealSystem::new(&rt));
     let mut log = None;
     let words = match read_options(env::args(&rt)) {
         Ok(options) => {
+            if options.wants_machine && machine.begin().is_err() {
+                return ExitCode::from(NO_MEMORY);
+            }
             if !options.counts_turns {
                 machine.keep_time(TIMER_MILLIS);
             }

@@ -640,3 +640,32 @@ fn pages_are_shown_beside_the_turns(rt: HostRuntime) -> Result<(), Fail> {
     assert!(rt; without, "no pages");
     Ok(())
 }
+
+/// Whether a machine tells whose connection it serves, and nobody's where it serves none, with its room taken so often beforehand.
+fn tells_its_peer(alloc: Global, begins: usize) -> Result<bool, AllocError> {
+    let mut world = world(alloc);
+    world.peer(sender(alloc, 0, 0, WHOLE)?)?;
+    let mut other = Peer::coming(alloc, address(2), at(10));
+    other.sends(alloc, at(10), OTHER)?;
+    world.peer(other)?;
+    let mut system = MemorySystem::new(world);
+    let mut site = NodeSite::new(alloc, &mut system);
+    for _ in 0..begins {
+        site.begin()?;
+    }
+    let nobody = site.peer().is_none();
+    let attached = site.attach("d/j", "127.0.0.1:9").is_ok();
+    let first = hears(&mut site, WHOLE) && site.peer() == Some(address(1));
+    let second = hears(&mut site, OTHER) && site.peer() == Some(address(2));
+    site.close();
+    Ok(nobody && attached && first && second && site.peer().is_none())
+}
+
+#[test]
+fn room_comes_first_and_peers_are_told(rt: HostRuntime) -> Result<(), Fail> {
+    for begins in [0, 1, 2] {
+        let told = tells_its_peer(rt.alloc(), begins)?;
+        assert!(rt; told, "{begins}");
+    }
+    Ok(())
+}
