@@ -18,7 +18,7 @@ _atx() {
         journal) options="--hex --help $(compgen -f -- "$word")" ;;
         make) options='--seed --steps --help' ;;
         tick) options='--to --help' ;;
-        coordinator | participant | initiator) options='--listen --base --journal --turns --log --status --help' ;;
+        coordinator | participant | initiator) options='--listen --base --journal --turns --log --status --tick-from-anywhere --help' ;;
         help) options=$commands ;;
         *) options="$commands --help --version" ;;
       esac
