@@ -60,8 +60,8 @@ fn read_options(words: io::Result<Args>) -> io::Result<Options> {
         options.counts_turns = options.counts_turns || is_option(word.as_str(), "--turns");
         options.logs = options.logs || is_option(word.as_str(), "--log");
         options.shows = options.shows || is_option(word.as_str(), "--status");
-        options.hears_ticks =
-            options.hears_ticks || is_option(word.as_str(), "--tick-from-anywhere");
+        options.hears_ticks = options.hears_ticks
+            || is_option(word.as_str(), "--tick-from-anywhere");
     }
     Ok(options)
 }

@@ -14,7 +14,10 @@ fn target_of(request: &[u8]) -> &[u8] {
 
 /// A target without its query and its fragment.
 fn without_query(target: &[u8]) -> &[u8] {
-    match target.iter().position(|byte| *byte == b'?' || *byte == b'#') {
+    match target
+        .iter()
+        .position(|byte| *byte == b'?' || *byte == b'#')
+    {
         Some(end) => &target[..end],
         None => target,
     }

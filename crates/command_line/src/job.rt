@@ -51,7 +51,7 @@ pub enum Role {
 }
 
 /// A node that serves: `ROLE --listen ADDR [--base URL] --journal F [--turns N] [--log] [--status]
-    /// [--tick-from-anywhere]`. The last three are its machine's.
+/// [--tick-from-anywhere]`. The last three are its machine's.
 #[derive(Clone, Copy, Debug, PartialEq, Eq)]
 pub struct Serving<'a> {
     pub role: Role,

@@ -24,7 +24,12 @@ enum Fate {
 }
 
 /// What becomes of a request for this target from there.
-fn fate(alloc: Global, from: SocketAddr, target: &str, hears_ticks: bool) -> Result<Fate, AllocError> {
+fn fate(
+    alloc: Global,
+    from: SocketAddr,
+    target: &str,
+    hears_ticks: bool,
+) -> Result<Fate, AllocError> {
     let request = format!(in alloc; "POST {target} HTTP/1.1\r\nContent-Length: 0\r\n\r\n")?;
     let mut world = world(alloc);
     world.peer(sender_of(alloc, from, 0, 0, request.as_bytes())?)?;
@@ -95,7 +100,12 @@ fn a_tick_is_for_the_machine_itself(rt: HostRuntime) -> Result<(), Fail> {
 }
 
 /// Whether a request from there is served beside so many silent connections of a stranger.
-fn is_served(alloc: Global, silent: SocketAddr, count: usize, from: SocketAddr) -> Result<bool, AllocError> {
+fn is_served(
+    alloc: Global,
+    silent: SocketAddr,
+    count: usize,
+    from: SocketAddr,
+) -> Result<bool, AllocError> {
     let mut world = world(alloc);
     for _ in 0..count {
         world.peer(Peer::coming(alloc, silent, at(0)))?;
