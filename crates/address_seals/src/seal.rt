@@ -85,21 +85,28 @@ mod tests {
     use super::Secret;
     use std::test::Fail;
 
+    /// Whether a text is this path with its seal.
+    fn opens(secret: Secret, text: &str, path: &str) -> bool {
+        match secret.opened(text.as_bytes()) {
+            Some(opened) => opened == path.as_bytes(),
+            None => false,
+        }
+    }
+
     #[test]
     fn a_seal_opens_its_own_path_alone(rt: HostRuntime) -> Result<(), Fail> {
         let alloc = rt.alloc();
         let secret = Secret::new([7; 32]);
         let sealed = secret.sealed(alloc, "/c/d/1-1/1")?;
         assert_eq!(rt; sealed.len(), 43);
-        assert_eq!(rt;
-            secret.opened(sealed.as_bytes()),
-            Some(b"/c/d/1-1/1".as_slice())
-        );
-        assert_eq!(rt; Secret::new([8; 32]).opened(sealed.as_bytes()), None);
-        let other = secret.sealed(alloc, "/c/d/1-1/2")?;
-        let moved = format!(in alloc; "/c/d/1-1/1{}", &other.as_str()[10..])?;
-        assert_eq!(rt; secret.opened(moved.as_bytes()), None);
-        assert_eq!(rt; secret.opened(b"/c/d/1-1/1"), None);
+        assert!(rt; opens(secret, sealed.as_str(), "/c/d/1-1/1"));
+        assert!(rt; secret.opened(sealed.as_bytes()).is_some());
+        assert!(rt; Secret::new([8; 32]).opened(sealed.as_bytes()).is_none());
+        let moved = format!(in alloc; "/c/d/1-1/1{}", &sealed.as_str()[10..])?;
+        assert!(rt; opens(secret, moved.as_str(), "/c/d/1-1/1"));
+        let other = format!(in alloc; "/c/d/1-1/2{}", &sealed.as_str()[10..])?;
+        assert!(rt; secret.opened(other.as_bytes()).is_none());
+        assert!(rt; secret.opened(b"/c/d/1-1/1").is_none());
         Ok(())
     }
 }
