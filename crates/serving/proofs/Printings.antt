@@ -47,7 +47,7 @@ stopped why result (Ok u) all i e d x y w within is failed err same part so = ab
 stopped why result (Err f) all i e d x y w within is failed err same part so =
     let part_of : Printing (Err why) (effect_line e) y w = subst (λ r. Printing r (effect_line e) y w) failed part in
     let longer : Printing (Err why) (effect_lines (drop i all)) y w =
-        subst (λ es. Printing (Err why) (effect_lines es) y w) (sym (from_there all i e d within is)) (in_front why (effect_line e) (effect_lines (drop (i + 1) all)) y w part_of) in
+    subst (λ es. Printing (Err why) (effect_lines es) y w) (sym (from_there all i e d within is)) (in_front why (effect_line e) (effect_lines (drop (i + 1) all)) y w part_of) in
     subst (λ g. Printing (Err g) (effect_lines all) x w) (sym same) (so (Err why) w longer)
 
 -- one line more was printed
