@@ -1,4 +1,5 @@
 pub mod Places
+pub mod Printings
 pub mod Sessions
 pub mod StartLines
 pub mod Since

@@ -14,7 +14,7 @@ item_some : (item : List ℕ) (id : Numbers) (word : List ℕ) → 0 < length it
 unfolding item_line
 item_some item id word h = in_front item _ h
 
-effect_some : (e : Effect) → 0 < length (effect_line e)
+pub effect_some : (e : Effect) → 0 < length (effect_line e)
 effect_some (effects.Root id what) = item_some (codes "root") id _ (omega arith)
 effect_some (effects.Sub id what) = item_some (codes "sub") id _ (omega arith)
 effect_some (effects.Leaf id kind what) = item_some (codes "leaf") id _ (omega arith)

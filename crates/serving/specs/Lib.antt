@@ -1,6 +1,7 @@
 pub mod AttachedNames
 pub mod Lines
 pub mod Notes
+pub mod Printing
 pub mod Requests
 pub mod Runs
 pub mod Services

@@ -1,8 +1,11 @@
 //! The lines that are printed.
 
-ghost use Rattle.std.specs.Prelude.{◌≡◌, ◌++◌, ◌<◌, IfOk, OnErr, OnOk, length, string_bytes};
+ghost use Rattle.std.specs.Prelude.{ℕ, List, ◌≡◌, ◌≤◌, ◌<◌, Err, IfOk, OnErr, OnOk, length, string_bytes};
+ghost use Rattle.site_model.specs.Counts.{Rose};
 ghost use Rattle.serving.specs.Lines.{effect_line, effect_lines, fault_text, item_line, leaf_words, refused_line, up_line};
+ghost use Rattle.serving.specs.Printing.{Printing};
 ghost use Rattle.serving.specs.Requests.{printed};
+ghost use Rattle.serving.specs.declared.lines.Unprinted.TheVariants.{SinkFailed};
 
 use crate::answer::Answer;
 use at_base::id::Id;
@@ -11,7 +14,17 @@ use at_base::outs::{Effect, Ending};
 use effect_words::{ending_word, refusal_word, told_word};
 use node_at::fault::StartFault;
 use node_at::local::Locally;
+use site_model::sink::{Sink, write_all};
 use std::alloc::{AllocError, Global};
+
+/// Why something wasn't printed to its end.
+#[derive(Clone, Copy, Debug, PartialEq, Eq)]
+pub enum Unprinted {
+    /// Want of memory.
+    NoMemory,
+    /// The sink failed.
+    SinkFailed,
+}
 
 /// The node is up, in this incarnation.
 #[tactic(auto, unfolding(crate::specs::Lines::up_line))]
@@ -21,82 +34,130 @@ pub fn up_line(alloc: Global, incarnation: u32) -> Result<String, AllocError>
     format!(in alloc; "up {incarnation}\n")
 }
 
+/// Room for one line of what happened. The longest, of a leaf whose id has twice ten digits, has 40 bytes.
+pub fn line_room(alloc: Global) -> Result<String, AllocError> {
+    String::with_capacity(alloc, 64)
+}
+
+/// Makes it an item's line.
 #[tactic(auto, unfolding(crate::specs::Lines::item_line))]
-fn item_line(alloc: Global, item: &str, id: Id, words: &str) -> Result<String, AllocError>
-    ensures { IfOk result (λ text. string_bytes text ≡ item_line item.now id words.now) }
+fn make_item(line: &mut String, item: &str, id: Id, words: &str) -> Result<(), AllocError>
+    ensures { OnOk result (string_bytes line.new ≡ item_line item.now id words.now) }
 {
-    format!(in alloc; "{item} {id} {words}\n")
+    line.clear();
+    write!(line, "{item} {id} {words}\n")
 }
 
+/// A leaf's kind before how it ended.
 #[tactic(auto, unfolding(crate::specs::Lines::leaf_words))]
-fn leaf_words(alloc: Global, kind: Kind, what: Ending) -> Result<String, AllocError>
-    ensures { IfOk result (λ text. string_bytes text ≡ leaf_words kind what) }
+fn leaf_words(kind: Kind, what: Ending) -> &'static str
+    ensures { result.now ≡ leaf_words kind what }
 {
-    format!(in alloc; "{} {}", kind.letter(), ending_word(what))
+    match kind {
+        Kind::Volatile => match what {
+            Ending::Committed => "v committed",
+            Ending::Aborted => "v aborted",
+            Ending::Lost => "v lost",
+        },
+        Kind::Durable => match what {
+            Ending::Committed => "d committed",
+            Ending::Aborted => "d aborted",
+            Ending::Lost => "d lost",
+        },
+    }
 }
 
-/// What happened for good on the node.
-fn effect_line(alloc: Global, effect: &Effect) -> Result<String, AllocError>
-    ensures { IfOk result (λ text. string_bytes text ≡ effect_line effect.now) }
+/// Makes it the line of what happened for good on the node.
+fn make_effect(line: &mut String, effect: &Effect) -> Result<(), AllocError>
+    ensures { OnOk result (string_bytes line.new ≡ effect_line effect.now) }
 {
     match effect {
-        Effect::Root { id, what } => item_line(alloc, "root", *id, ending_word(*what)),
-        Effect::Sub { id, what } => item_line(alloc, "sub", *id, ending_word(*what)),
-        Effect::Leaf { id, kind, what } => {
-            let words = leaf_words(alloc, *kind, *what)?;
-            item_line(alloc, "leaf", *id, words.as_str())
-        }
-        Effect::Told { id, what } => item_line(alloc, "told", *id, told_word(*what)),
+        Effect::Root { id, what } => make_item(line, "root", *id, ending_word(*what)),
+        Effect::Sub { id, what } => make_item(line, "sub", *id, ending_word(*what)),
+        Effect::Leaf { id, kind, what } => make_item(line, "leaf", *id, leaf_words(*kind, *what)),
+        Effect::Told { id, what } => make_item(line, "told", *id, told_word(*what)),
     }
-}
-
-fn push_effect(alloc: Global, text: &mut String, effect: &Effect) -> Result<(), AllocError>
-    ensures { OnOk result (string_bytes text.new ≡ string_bytes text.old ++ effect_line effect.now) }
-{
-    let line = effect_line(alloc, effect)?;
-    text.push_str(line.as_str())
-}
-
-fn effect_lines(alloc: Global, effects: &[Effect]) -> Result<String, AllocError>
-    ensures { IfOk result (λ text. string_bytes text ≡ effect_lines effects.now) }
-{
-    let mut text = String::new(alloc);
-    for effect in effects {
-        push_effect(alloc, &mut text, effect)?;
-    }
-    Ok(text)
 }
 
 #[tactic(auto, unfolding(crate::specs::Lines::refused_line))]
-fn refused_line(alloc: Global, word: &str) -> Result<String, AllocError>
-    ensures { IfOk result (λ text. string_bytes text ≡ refused_line word.now) }
+fn make_refused(line: &mut String, word: &str) -> Result<(), AllocError>
+    ensures { OnOk result (string_bytes line.new ≡ refused_line word.now) }
 {
-    format!(in alloc; "refused {word}\n")
+    line.clear();
+    write!(line, "refused {word}\n")
 }
 
-/// What effects print, where there is one.
-#[tactic(auto, using(crate::proofs::Texts::lines_some))]
-fn effects_printed(alloc: Global, effects: &[Effect]) -> Result<String, AllocError>
-    ensures is { IfOk result (λ text. string_bytes text ≡ effect_lines effects.now) }
-    ensures some { OnErr result (0 < length (effect_lines effects.now)) }
+/// Prints a line.
+#[tactic(auto, using(crate::proofs::Sessions::partly, crate::proofs::Sessions::wholly))]
+fn print_line<K: Sink>(line: &str, sink: &mut K) -> Result<(), Unprinted>
+    ensures prints { Printing result line.now (K.contents sink.old) (K.contents sink.new) }
+    ensures cause { result ≡ Err SinkFailed → Rose (K.faults sink.old) (K.faults sink.new) }
+    ensures later { K.faults sink.old ≤ K.faults sink.new }
 {
-    if effects.len() > 0 {
-        effect_lines(alloc, effects)
-    } else {
-        Ok(String::new(alloc))
+    match write_all(sink, line.as_bytes()) {
+        Ok(()) => Ok(()),
+        Err(_) => Err(Unprinted::SinkFailed),
     }
 }
 
-/// What is printed of an answer and of the effects that it came with. Memory is wanted only for something.
-#[tactic(auto, using(crate::proofs::Texts::refused_some))]
-pub fn printed(alloc: Global, answer: &Answer, effects: &[Effect]) -> Result<String, AllocError>
-    ensures is { IfOk result (λ text. string_bytes text ≡ printed answer.now effects.now) }
-    ensures some { OnErr result (0 < length (printed answer.now effects.now)) }
+/// Prints what happened for good on the node.
+#[tactic(auto, using(crate::proofs::Texts::effect_some, crate::proofs::Printings::wanting))]
+fn print_effect<K: Sink>(line: &mut String, effect: &Effect, sink: &mut K) -> Result<(), Unprinted>
+    ensures prints { Printing result (effect_line effect.now) (K.contents sink.old) (K.contents sink.new) }
+    ensures cause { result ≡ Err SinkFailed → Rose (K.faults sink.old) (K.faults sink.new) }
+    ensures later { K.faults sink.old ≤ K.faults sink.new }
+{
+    if make_effect(line, effect).is_err() {
+        return Err(Unprinted::NoMemory);
+    }
+    print_line(line.as_str(), sink)
+}
+
+/// Prints line after line what happened for good on the node.
+#[tactic(auto, using(crate::proofs::Printings::behind, crate::proofs::Printings::in_front))]
+fn print_effects<K: Sink>(
+    line: &mut String,
+    effects: &[Effect],
+    sink: &mut K,
+) -> Result<(), Unprinted>
+    ensures prints { Printing result (effect_lines effects.now) (K.contents sink.old) (K.contents sink.new) }
+    ensures cause { result ≡ Err SinkFailed → Rose (K.faults sink.old) (K.faults sink.new) }
+    ensures later { K.faults sink.old ≤ K.faults sink.new }
+{
+    for effect in effects {
+        print_effect(line, effect, sink)?;
+    }
+    Ok(())
+}
+
+/// Prints why a request was refused.
+#[tactic(auto, using(crate::proofs::Texts::refused_some, crate::proofs::Printings::wanting))]
+fn print_refused<K: Sink>(line: &mut String, word: &str, sink: &mut K) -> Result<(), Unprinted>
+    ensures prints { Printing result (refused_line word.now) (K.contents sink.old) (K.contents sink.new) }
+    ensures cause { result ≡ Err SinkFailed → Rose (K.faults sink.old) (K.faults sink.new) }
+    ensures later { K.faults sink.old ≤ K.faults sink.new }
+{
+    if make_refused(line, word).is_err() {
+        return Err(Unprinted::NoMemory);
+    }
+    print_line(line.as_str(), sink)
+}
+
+/// Prints an answer and the effects that it came with, in lines that are made one after another where `line` is.
+pub fn print<K: Sink>(
+    line: &mut String,
+    answer: &Answer,
+    effects: &[Effect],
+    sink: &mut K,
+) -> Result<(), Unprinted>
+    ensures prints { Printing result (printed answer.now effects.now) (K.contents sink.old) (K.contents sink.new) }
+    ensures cause { result ≡ Err SinkFailed → Rose (K.faults sink.old) (K.faults sink.new) }
+    ensures later { K.faults sink.old ≤ K.faults sink.new }
 {
     match answer {
-        Answer::Local(Locally::Refused { why }) => refused_line(alloc, refusal_word(*why)),
-        Answer::Stale => refused_line(alloc, "state"),
-        Answer::Local(_) | Answer::Turn(_) => effects_printed(alloc, effects),
+        Answer::Local(Locally::Refused { why }) => print_refused(line, refusal_word(*why), sink),
+        Answer::Stale => print_refused(line, "state", sink),
+        Answer::Local(_) | Answer::Turn(_) => print_effects(line, effects, sink),
     }
 }
 

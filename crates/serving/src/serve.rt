@@ -9,7 +9,7 @@ ghost use Rattle.serving.specs.Sessions.{Tells};
 ghost use Rattle.serving.specs.Services.{base_at, serviced};
 ghost use Rattle.serving.specs.declared.service_end.Ended.TheVariants.{SinkFailed};
 
-use crate::lines::{fault_text, up_line};
+use crate::lines::{fault_text, line_room, up_line};
 use crate::service::Service;
 use crate::service_end::{Ended, attach_ended, start_ended};
 use crate::session::Session;
@@ -67,6 +67,10 @@ fn attend<K: Sink, H: Showing>(
         Ok(line) => line,
         Err(_) => return Ended::NoMemory,
     };
+    let room = match line_room(alloc) {
+        Ok(room) => room,
+        Err(_) => return Ended::NoMemory,
+    };
     if write_all(sink, line.as_bytes()).is_err() {
         return Ended::SinkFailed;
     }
@@ -77,6 +81,7 @@ fn attend<K: Sink, H: Showing>(
         unmet: Vec::new(alloc),
         met: true,
         waited: 0,
+        line: room,
     };
     session.attend(alloc, service.lines, service.turns, sink, site)
 }

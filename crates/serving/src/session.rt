@@ -11,7 +11,7 @@ ghost use Rattle.serving.specs.Sessions.{Finishes, HasRoom, Takes, notes_of};
 ghost use Rattle.serving.specs.declared.service_end.Ended.TheVariants.{SinkFailed};
 
 use crate::answer::Answer;
-use crate::lines::printed;
+use crate::lines::{Unprinted, print};
 use crate::request::{Request, line_request};
 use crate::service_end::{Ended, done_by};
 use at_base::id::Id;
@@ -20,7 +20,7 @@ use node_at::node::Node;
 use node_at::role::Role;
 use schedules::initiator_line::InitiatorLine;
 use shown_pages::showing::Showing;
-use site_model::sink::{Sink, write_all};
+use site_model::sink::Sink;
 use status_pages::view::View;
 use std::alloc::{AllocError, Global};
 
@@ -38,6 +38,8 @@ pub struct Session {
     pub met: bool,
     /// How many connections the `wait` that isn't through has served.
     pub waited: u64,
+    /// Room for the line that is printed.
+    pub line: String,
 }
 
 /// What an item asks: a line, or a turn where there is none.
@@ -213,7 +215,6 @@ impl Session {
     #[tactic(auto, using(crate::proofs::Sessions::finished, crate::proofs::Sessions::unprinted))]
     fn finish<K: Sink>(
         &mut self,
-        alloc: Global,
         item: Option<&InitiatorLine>,
         answer: &Answer,
         sink: &mut K,
@@ -226,12 +227,10 @@ impl Session {
         ensures cause { result ≡ Some SinkFailed → Rose (K.faults sink.old) (K.faults sink.new) }
         ensures later { K.faults sink.old ≤ K.faults sink.new }
     {
-        let text = match printed(alloc, answer, self.node.effects()) {
-            Ok(text) => text,
-            Err(_) => return Some(Ended::NoMemory),
-        };
-        if write_all(sink, text.as_bytes()).is_err() {
-            return Some(Ended::SinkFailed);
+        match print(&mut self.line, answer, self.node.effects(), sink) {
+            Ok(()) => {}
+            Err(Unprinted::NoMemory) => return Some(Ended::NoMemory),
+            Err(Unprinted::SinkFailed) => return Some(Ended::SinkFailed),
         }
         self.mark(item, answer);
         self.keep(item, answer);
@@ -264,7 +263,7 @@ impl Session {
             return Some(Ended::NoMemory);
         }
         let answer = self.answer(alloc, &request, site);
-        self.finish(alloc, item, &answer, sink)
+        self.finish(item, &answer, sink)
     }
 
     /// Does line after line, and then so many turns, and prints what each brings about.
