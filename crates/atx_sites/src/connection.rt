@@ -181,6 +181,7 @@ fn next<S: System>(
     if !waiting.refuses(&ready) {
         return Some(ready);
     }
+    waiting.foreign = waiting.foreign_with(&ready);
     refuse(system, departures, waiting.alloc(), ready);
     None
 }

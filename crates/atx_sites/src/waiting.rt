@@ -162,15 +162,17 @@ impl<C: AsRawFd + Drop> Waiting<C> {
     }
 
     /// Whether a connection is refused instead of having a turn: a web page's, and a tick of another machine, unless such are taken.
-    /// Web pages are counted.
-    pub(crate) fn refuses(&mut self, arriving: &Arriving<C>) -> bool
-        ensures { self.new ≡ record self.old { foreign = self.new.foreign } }
-    {
+    pub(crate) fn refuses(&self, arriving: &Arriving<C>) -> bool {
+        arriving.is_foreign() || !self.hears_ticks && arriving.is_strange_tick()
+    }
+
+    /// How many web pages were refused, with one that is refused.
+    pub(crate) fn foreign_with(&self, arriving: &Arriving<C>) -> u64 {
         if arriving.is_foreign() {
-            self.foreign = self.foreign.saturating_add(1);
-            return true;
+            self.foreign.saturating_add(1)
+        } else {
+            self.foreign
         }
-        !self.hears_ticks && arriving.is_strange_tick()
     }
 
     /// Closes those whose time is over without a byte.
