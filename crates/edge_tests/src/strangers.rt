@@ -24,7 +24,7 @@ enum Fate {
 }
 
 /// What becomes of a request for this target from there.
-fn fate(
+fn became(
     alloc: Global,
     from: SocketAddr,
     target: &str,
@@ -83,17 +83,17 @@ fn a_tick_is_for_the_machine_itself(rt: HostRuntime) -> Result<(), Fail> {
         SocketAddr::from((mapped, 80)),
     ];
     for target in TICKS {
-        let refused = fate(alloc, stranger, target, false)?;
+        let refused = became(alloc, stranger, target, false)?;
         assert!(rt; refused == Fate::Refused, "{target}: {refused:?}");
-        let heard = fate(alloc, stranger, target, true)?;
+        let heard = became(alloc, stranger, target, true)?;
         assert!(rt; heard == Fate::Served, "{target}: {heard:?}");
         for from in own {
-            let served = fate(alloc, from, target, false)?;
+            let served = became(alloc, from, target, false)?;
             assert!(rt; served == Fate::Served, "{from} {target}: {served:?}");
         }
     }
     for target in ["/c/d/1-1/1", "/tick/1", "/ticks", "/activation?tick", "/"] {
-        let served = fate(alloc, stranger, target, false)?;
+        let served = became(alloc, stranger, target, false)?;
         assert!(rt; served == Fate::Served, "{target}: {served:?}");
     }
     Ok(())
