@@ -34,6 +34,7 @@ pub by_disk : (fault : StartFault) (armed : Armed) → may_fail fault armed ≡ 
 by_disk ends.NoMemory armed e = absurd cc
 by_disk ends.Disk armed e = refl
 by_disk (ends.Bad file place) armed e = absurd cc
+by_disk ends.NoJournal armed e = absurd cc
 by_disk ends.Spent armed e = absurd cc
 by_disk ends.Full armed e = absurd cc
 

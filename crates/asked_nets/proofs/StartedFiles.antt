@@ -81,6 +81,7 @@ tried_are_read told_calls links apart images leave leave_failed base (Err ends.D
     failed_read told_calls links apart images leave leave_failed base old t last armed made K told adds B armed refl
 tried_are_read told_calls links apart images leave leave_failed base (Err ends.NoMemory) old t last armed made K told B adds tried = absurd tried
 tried_are_read told_calls links apart images leave leave_failed base (Err (ends.Bad file place)) old t last armed made K told B adds tried = absurd tried
+tried_are_read told_calls links apart images leave leave_failed base (Err ends.NoJournal) old t last armed made K told B adds tried = absurd tried
 tried_are_read told_calls links apart images leave leave_failed base (Err ends.Spent) old t last armed made K told B adds tried = absurd tried
 tried_are_read told_calls links apart images leave leave_failed base (Err ends.Full) old t last armed made K told B adds tried = absurd tried
 

@@ -76,6 +76,7 @@ fn last_in(alloc: Global, site: &MemSite) -> Result<u32, Undone>
         Ok((_journal, found)) => last_of(alloc, &found),
         Err(LoadFault::NoMemory | LoadFault::Disk) => Err(Undone::NoMemory),
         Err(LoadFault::Bad { .. }) => Err(Undone::Apart),
+        Err(LoadFault::NoJournal) => Err(Undone::Apart),
     }
 }
 
@@ -166,19 +167,24 @@ fn may_fail(fault: &StartFault, armed: Armed) -> bool
             Armed::Fail(_) => true,
             Armed::No | Armed::Stop(..) => false,
         },
-        StartFault::NoMemory | StartFault::Bad { .. } | StartFault::Spent | StartFault::Full =>
-            false,
+        StartFault::NoMemory
+        | StartFault::Bad { .. }
+        | StartFault::NoJournal
+        | StartFault::Spent
+        | StartFault::Full => false,
     }
 }
 
-/// What a start that failed came to: want of memory, or of a call that the machine didn't try; a bad journal, a full one and one whose incarnations
-/// are spent are none.
+/// What a start that failed came to: want of memory, or of a call that the machine didn't try; files that are no journal, a bad one, a full one
+/// and one whose incarnations are spent are none.
 fn wanting(fault: &StartFault) -> Undone
     ensures { IsWant fault.now → result ≡ Apart → ⊥ }
 {
     match fault {
         StartFault::NoMemory | StartFault::Disk => Undone::NoMemory,
-        StartFault::Bad { .. } | StartFault::Spent | StartFault::Full => Undone::Apart,
+        StartFault::Bad { .. } | StartFault::NoJournal | StartFault::Spent | StartFault::Full => {
+            Undone::Apart
+        }
     }
 }
 

@@ -11,7 +11,7 @@ use Rattle.journal_at.specs.declared.journal.Journal.{Journal}
 use Rattle.journal_at.specs.declared.load.LoadFault.TheVariants as loaded
 use Rattle.journal_at.specs.declared.records.Records.{Records}
 use Rattle.journal_at.specs.Loads.{Fails, Opens}
-use Rattle.audit_cmd.specs.JournalReports.{IsBadJournal, Stands}
+use Rattle.audit_cmd.specs.JournalReports.{IsBadJournal, Stands, longer_file}
 
 nothing_dropped : (n : ℕ) → drop {A = ℕ} n [] ≡ []
 nothing_dropped zero = refl
@@ -33,7 +33,10 @@ stands f journal records kept old new h o k = record { is = o.is f h; all = k.al
 pub no_record : (f : Files) (journal : Journal) (records : Records) (place : ℕ) (old new : Told) → Is old.files f → Opens journal records old new → Folds (Err (folded.Bad place)) records
     → IsBadJournal journal.live place f
 no_record f journal records place old new h o k =
-    inr (record { found = records; is = o.is f h; bodies = o.bodies; held = o.held f h; same = o.records_are; placed = o.placed; bad = k })
+    inr (inl (record { found = records; is = o.is f h; bodies = o.bodies; held = o.held f h; same = o.records_are; placed = o.placed; bad = k }))
 
 pub no_list : (f : Files) (file place : ℕ) (old new : Told) → Is old.files f → Fails (loaded.Bad file place) old new → IsBadJournal file place f
 no_list f file place old new h k = inl (k.cause f h)
+
+pub no_journal : (f : Files) (file : ℕ) (old new : Told) → Is old.files f → file ≡ longer_file f.first → Fails loaded.NoJournal old new → IsBadJournal file 0 f
+no_journal f file old new h e k = inr (inr (record { is = k.cause f h; longer = e; begin = refl }))

@@ -1,5 +1,5 @@
 -- What an audit prints of its lines, and the status that it ends with.
-use Rattle.std.specs.Prelude.{ℕ, List, [], ◌∷◌, ◌++◌, ◌+◌, ◌≡◌, ◌⊎◌, codes, decimal, length, Result, Ok, Err}
+use Rattle.std.specs.Prelude.{ℕ, List, [], ◌∷◌, ◌++◌, ◌+◌, ◌≡◌, ◌⊎◌, codes, cond, decimal, length, nat_lt, Result, Ok, Err}
 use Rattle.at_base.specs.IdText.{id_text}
 use Rattle.at_base.specs.Numbers.{Numbers}
 use Rattle.at_base.specs.declared.record.Record.{Record}
@@ -7,7 +7,7 @@ use Rattle.decision_log.specs.Folds.{AreRecords, IsBadAt, placed_in}
 use Rattle.journal_at.specs.Format.{records_of}
 use Rattle.journal_at.specs.Frames.{ArePlaced}
 use Rattle.journal_at.specs.Loads.{IsJudged}
-use Rattle.journal_at.specs.Pairs.{FilesOf, HasLive}
+use Rattle.journal_at.specs.Pairs.{FilesOf, HasLive, IsForeign}
 use Rattle.journal_at.specs.Scans.{records_in}
 use Rattle.journal_at.specs.declared.records.Records.{Records}
 use Rattle.journal_at.specs.declared.version.Version.{Version}
@@ -38,9 +38,19 @@ pub record IsNoRecord (file place : ℕ) (files : Files) : Type 0 where
   pub placed : ArePlaced 0 found.items.items
   pub bad : IsBadAt found.version (placed_in found) place
 
--- The files stand for no list of bodies, file 0 judged first; or for one with a body that is no record.
+-- the first of two files, one of them longer than a new journal's, that is
+abbrev pub longer_file : List ℕ → ℕ
+longer_file first = cond (nat_lt 11 (length first)) 0 1
+
+-- The live file has no body, and a file is longer than a new journal's; at the begin of the first such.
+pub record IsNoJournal (file place : ℕ) (files : Files) : Type 0 where
+  pub is : IsForeign files
+  pub longer : file ≡ longer_file files.first
+  pub begin : place ≡ 0
+
+-- The files stand for no list of bodies, file 0 judged first; or for one with a body that is no record; or they hold nothing of a journal.
 abbrev pub IsBadJournal : ℕ → ℕ → Files → Type 0
-IsBadJournal file place files = IsJudged file place files ⊎ IsNoRecord file place files
+IsBadJournal file place files = IsJudged file place files ⊎ (IsNoRecord file place files ⊎ IsNoJournal file place files)
 
 abbrev pub JournalOf : Result Records JournalFault → Files → Type 0
 JournalOf (Ok records) files = Stands files records

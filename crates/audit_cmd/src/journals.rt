@@ -3,7 +3,7 @@
 ghost use Rattle.std.specs.Prelude.{◌≡◌, IfOk, OnOk, Some, option_map};
 ghost use Rattle.site_model.specs.Told.{with_file, written};
 ghost use Rattle.site_memory.specs.Sites.{told_of};
-ghost use Rattle.audit_cmd.specs.JournalReports.{JournalOf};
+ghost use Rattle.audit_cmd.specs.JournalReports.{JournalOf, longer_file};
 
 use decision_log::fold::{FoldFault, fold};
 use journal_at::load::{LoadFault, load};
@@ -16,7 +16,8 @@ use std::alloc::{AllocError, Global};
 #[derive(Debug, PartialEq, Eq, Drop)]
 pub enum JournalFault {
     NoMemory,
-    /// A file stands for no list of bodies, or a body of the live one is no record; the file's number, and the place of the gate.
+    /// A file stands for no list of bodies, or a body of the live one is no record: the file's number, and the place of the gate. Or they
+    /// hold nothing of a journal: the first file that is longer than a new one's, at its begin.
     Bad { file: u8, place: u64 },
 }
 
@@ -41,8 +42,15 @@ fn machine(alloc: Global, first: &[u8], second: &[u8]) -> Result<MemSite, AllocE
     Ok(site)
 }
 
+/// Which of two files that are no journal is longer than a new one's, the first such.
+fn longer_file(first: &[u8]) -> u8
+    ensures { result ≡ longer_file first.now }
+{
+    if first.len() > 11 { 0 } else { 1 }
+}
+
 /// The records that two files stand for.
-#[tactic(auto, using(crate::proofs::FilesRead::stands, crate::proofs::FilesRead::no_record, crate::proofs::FilesRead::no_list))]
+#[tactic(auto, using(crate::proofs::FilesRead::stands, crate::proofs::FilesRead::no_record, crate::proofs::FilesRead::no_list, crate::proofs::FilesRead::no_journal))]
 pub(crate) fn journal_of(
     alloc: Global,
     first: &[u8],
@@ -63,6 +71,10 @@ pub(crate) fn journal_of(
             }),
         },
         Err(LoadFault::Bad { file, place }) => Err(JournalFault::Bad { file, place }),
+        Err(LoadFault::NoJournal) => Err(JournalFault::Bad {
+            file: longer_file(first),
+            place: 0,
+        }),
         Err(LoadFault::NoMemory | LoadFault::Disk) => Err(JournalFault::NoMemory),
     }
 }

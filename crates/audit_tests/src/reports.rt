@@ -135,6 +135,23 @@ const ROWS: &[(&[u8], u8, &[u8])] = &[
         7,
         b"bad journal 1 file 0 at 10\n",
     ),
+    // a text of more than 11 bytes
+    (
+        b"journal http://n2.example 6e6f746573206f66206120646179 -\n",
+        7,
+        b"bad journal 1 file 0 at 0\n",
+    ),
+    (
+        b"journal http://n2.example 00 6e6f746573206f66206120646179\n",
+        7,
+        b"bad journal 1 file 1 at 0\n",
+    ),
+    // and one of 11, which a new journal may have
+    (
+        b"journal http://n2.example 00000000050b0000000000 -\n",
+        0,
+        b"agreed committed 0 aborted 0\n",
+    ),
     // but in a file that is not live
     (
         b"journal http://n2.example 0100000005010000000100 0100000005010000000101000000016300\n",

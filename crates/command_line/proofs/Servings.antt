@@ -40,6 +40,7 @@ sink_failed endings.SinkFailed e = refl
 sink_failed endings.DiskFailed e = absurd cc
 sink_failed endings.Halted e = absurd cc
 sink_failed endings.BadJournal e = absurd cc
+sink_failed endings.NoJournal e = absurd cc
 sink_failed endings.ListenerFailed e = absurd cc
 sink_failed endings.NoMemory e = absurd cc
 sink_failed endings.Spent e = absurd cc

@@ -41,6 +41,7 @@ status_by endings.SinkFailed = 5
 status_by endings.DiskFailed = 6
 status_by endings.Halted = 6
 status_by endings.BadJournal = 7
+status_by endings.NoJournal = 7
 status_by endings.ListenerFailed = 8
 status_by endings.NoMemory = 9
 status_by endings.Spent = 11

@@ -24,7 +24,7 @@ use std::alloc::Global;
 /// The disk failed: before the node was up, or a record of it may stand or not.
 pub const DISK_FAILED: u8 = 6;
 
-/// The journal stands for no list of records.
+/// The journal stands for no list of records, or the files are no journal.
 pub const BAD_JOURNAL: u8 = 7;
 
 /// There is no listener, or it failed.
@@ -50,6 +50,7 @@ fn status_by(ended: Ended) -> u8
         Ended::DiskFailed => DISK_FAILED,
         Ended::Halted => DISK_FAILED,
         Ended::BadJournal => BAD_JOURNAL,
+        Ended::NoJournal => BAD_JOURNAL,
         Ended::ListenerFailed => LISTENER_FAILED,
         Ended::NoMemory => NO_MEMORY,
         Ended::Spent => SPENT,

@@ -276,6 +276,13 @@ const MACHINES: &[(&[u8], &[u8], &[u8], u8, &str)] = &[
     (
         b"j",
         b"127.0.0.1:9001",
+        b"notes of a day",
+        7,
+        "no journal\n",
+    ),
+    (
+        b"j",
+        b"127.0.0.1:9001",
         b"\x01\x00\x00\x00\x05\x0b\x00\x00\x00\x00\x01\x00\x00\x00\x05\x01\xff\xff\xff\xff\x00",
         11,
         "",

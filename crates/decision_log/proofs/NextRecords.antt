@@ -1,12 +1,12 @@
 -- A record may stand behind any others.
-use Rattle.std.proofs.Common.{ℕ, List, [], ◌∷◌, ◌≡◌, ◌++◌, None, refl, ap, subst}
+use Rattle.std.proofs.Common.{ℕ, List, [], ◌∷◌, ◌≡◌, ◌≤◌, ◌++◌, None, length, refl, ap, subst, arith}
 use Rattle.at_base.specs.declared.record.Record.{Record}
 use Rattle.site_model.specs.Told.{Told}
 use Rattle.journal_at.specs.declared.journal.Append.{Append}
 use Rattle.journal_at.specs.declared.journal.Journal.{Journal}
 use Rattle.journal_at.specs.declared.version.Version.TheVariants.{Two}
-use Rattle.journal_at.specs.Format.{AreBodies, AreInPlace, AreListed, AreUnmarked, IsBody, head_of, mark_of, marked}
-use Rattle.journal_at.specs.StandingBodies.{MayFollow}
+use Rattle.journal_at.specs.Format.{AreBodies, AreInPlace, AreListed, AreUnmarked, IsBody, frames, head_of, mark_of, marked}
+use Rattle.journal_at.specs.StandingBodies.{MayBegin, MayFollow}
 use Rattle.record_bytes.specs.Bytes.{bytes_of}
 use Rattle.record_bytes.specs.Versions.{IsRecord}
 use Rattle.decision_log.specs.AppendedRecords.{IsAppended}
@@ -27,10 +27,16 @@ same_generation : (bodies : List (List ℕ)) (body : List ℕ) → mark_of body 
 same_generation [] body k = ap (λ m. (marked m).generation) k
 same_generation (b ∷ bodies) body k = refl
 
-pub may_follow : (bodies : List (List ℕ)) (body : List ℕ) → AreListed bodies → IsBody body × (mark_of body ≡ None) → MayFollow bodies body
-may_follow bodies body h (k, l) = record {
+-- a file whose last gate stands behind others has a body
+begins : (bodies : List (List ℕ)) (body : List ℕ) (end : ℕ) → end ≡ length (frames bodies) → 1 ≤ end → MayBegin bodies body
+begins [] body end e l = absurd (omega (arith, e, l))
+begins (b ∷ bodies) body end e l = tt
+
+pub may_follow : (bodies : List (List ℕ)) (body : List ℕ) (end : ℕ) → AreListed bodies → end ≡ length (frames bodies) → 1 ≤ end → IsBody body × (mark_of body ≡ None) → MayFollow bodies body
+may_follow bodies body end h e least (k, l) = record {
   listed = record { sized = sized_push bodies body h.sized k; placed = placed_push bodies body h.placed l };
   generation = same_generation bodies body l;
+  begins = begins bodies body end e least;
 }
 
 pub of_its_bytes : (a : Append) (r : Record) (body : List ℕ) (before after : Journal) (old new : Told) → IsRecord Two r body

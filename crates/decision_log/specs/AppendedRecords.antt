@@ -1,5 +1,5 @@
 -- A record that is appended.
-use Rattle.std.specs.Prelude.{ℕ, List, Option, Some, None, Result, Ok, Err, true, false, ◌≡◌, ◌<◌, ◌+◌, ◌↔◌, length}
+use Rattle.std.specs.Prelude.{ℕ, List, Option, Some, None, Result, Ok, Err, true, false, ◌≡◌, ◌≤◌, ◌<◌, ◌+◌, ◌↔◌, length}
 use Rattle.at_base.specs.declared.record.Record.{Record}
 use Rattle.site_model.specs.Told.{Told}
 use Rattle.journal_at.specs.declared.journal.Append.{Append}
@@ -19,10 +19,10 @@ ending (Err Refused) = Some appends.Refused
 ending (Err Unsure) = Some appends.Unsure
 ending (Err Full) = Some appends.Full
 
--- the append of the record's body ended so
+-- the append of the record's body, to a file that has a body, ended so
 pub record IsAppended (a : Append) (r : Record) (body : List ℕ) (before after : Journal) (old new : Told) : Type 0 where
   pub is : IsRecord Two r body
-  pub appended : (bodies : List (List ℕ)) → before.unsure ≡ false → Keeps before bodies old → Appended a bodies body after old new
+  pub appended : (bodies : List (List ℕ)) → before.unsure ≡ false → Keeps before bodies old → 1 ≤ before.end → Appended a bodies body after old new
   pub calls : before.unsure ≡ false → Calls a before.live before.end body old new
   pub reason : HasReason a before old new
   pub full : (a ≡ appends.Full) ↔ ((before.unsure ≡ false) × (before.limit < before.end + 6 + length body))

@@ -1,5 +1,5 @@
 -- The records that a journal comes to when its dead ones are left out.
-use Rattle.std.specs.Prelude.{ℕ, List, [], ◌∷◌, ◌++◌, ◌+◌, ◌<◌, ◌≡◌, ◌↔◌, true, false, zero, suc, length, map}
+use Rattle.std.specs.Prelude.{ℕ, List, [], ◌∷◌, ◌++◌, ◌+◌, ◌≤◌, ◌<◌, ◌≡◌, ◌↔◌, true, false, zero, suc, length, map}
 use Rattle.at_base.specs.declared.record.Record.{Record}
 use Rattle.at_base.specs.declared.record.Record.TheVariants as records
 use Rattle.site_model.specs.Told.{Told}
@@ -30,9 +30,9 @@ pub record ShrinksTheSame : Type 0 where
   pub followed : (rs more : List Record) → kept_of Two (shrunk (kept_of Two rs) ++ more) ≡ kept_of Two (rs ++ more)
   pub migrated : (rs : List Record) → kept_of Two (shrunk (kept_of One rs)) ≡ kept_of One rs
 
--- these bodies were written anew
+-- these bodies were written anew, where the live file has a body
 pub record IsCompacted (result : Compact) (texts : List (List ℕ)) (before after : Journal) (old new : Told) : Type 0 where
-  pub compacted : (kept : List (List ℕ)) → before.unsure ≡ false → Keeps before kept old → Compacted result before.live kept (mark_body (before.generation + 1) ∷ texts) after old new
+  pub compacted : (kept : List (List ℕ)) → before.unsure ≡ false → Keeps before kept old → 1 ≤ before.end → Compacted result before.live kept (mark_body (before.generation + 1) ∷ texts) after old new
   pub moves : before.unsure ≡ false → Moves result (text_of (before.generation + 1) texts) before after old new
   pub ground : HasGround result before old new
   pub full : (result ≡ compacts.Full) ↔ ((before.unsure ≡ false) × (before.limit < length (frames (mark_body (before.generation + 1) ∷ texts)) + 1))

@@ -1,6 +1,6 @@
 //! A record that is appended.
 
-ghost use Rattle.std.specs.Prelude.{◌≡◌, Err, Some, true, IfOk, IfSome};
+ghost use Rattle.std.specs.Prelude.{◌≡◌, ◌≤◌, Err, Some, true, IfOk, IfSome};
 ghost use Rattle.at_base.specs.WellFormed.{IsWellFormed};
 ghost use Rattle.decision_log.specs.AppendedRecords.{IsAppended, ending};
 ghost use Rattle.decision_log.specs.Tokens.{token_of};
@@ -48,6 +48,7 @@ fn kept(entry: &Record, ended: Append) -> Result<Durable, KeepFault>
 fn append<S: Site>(journal: &mut Journal, site: &mut S, entry: &Record, body: &[u8]) -> Append
     requires { IsRecord Two entry.now body.now }
     ensures appended { IsAppended result entry.now body.now journal.old journal.new (S.told site.old) (S.told site.new) }
+    ensures end { journal.old.end ≤ journal.new.end }
     ensures nothing { journal.old.unsure ≡ true → site.new ≡ site.old }
     ensures counted { Counted (S.told site.old) (S.told site.new) }
 {
@@ -55,7 +56,7 @@ fn append<S: Site>(journal: &mut Journal, site: &mut S, entry: &Record, body: &[
     journal.append(site, body)
 }
 
-/// Appends a record, and answers the token of exactly this record.
+/// Appends a record to a live file that has a body, and answers the token of exactly this record.
 ///
 /// Memory is taken before the first call of the device, and where there is none, nothing is done. Nothing is done either once
 /// the journal was unsure.
@@ -69,6 +70,7 @@ pub fn keep<S: Site>(
     requires { IsWellFormed entry.now }
     ensures token { IfOk result (λ d. d ≡ token_of entry.now) }
     ensures appended { IfSome (ending result) (λ a. IsAppended a entry.now (bytes_of entry.now) journal.old journal.new (S.told site.old) (S.told site.new)) }
+    ensures end { journal.old.end ≤ journal.new.end }
     ensures nothing { journal.old.unsure ≡ true → site.new ≡ site.old }
     ensures memory { result ≡ Err NoMemory → (site.new ≡ site.old) × (journal.new ≡ journal.old) }
     ensures counted { Counted (S.told site.old) (S.told site.new) }

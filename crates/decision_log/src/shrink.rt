@@ -140,7 +140,7 @@ fn compact<S: Site>(
 }
 
 /// Writes what is kept into the journal's other file, and makes that the live one: the records that it then holds make the
-/// same Kept. The Kept is that of the journal's records.
+/// same Kept. The Kept is that of the journal's records. The live file has a body.
 ///
 /// Memory is taken before the first call of the device, and where there is none, nothing is done.
 pub fn shrink<S: Site>(

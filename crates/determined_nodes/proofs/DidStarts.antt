@@ -61,14 +61,14 @@ pub into_live : (since fails : ℕ) (f : Files) (bare : Bool) (version : Version
     → file ≡ j.live
 into_live since fails f bare Two rs j file from was h = h
 into_live since fails f bare One rs j file (inl (qs, stands)) was h = absurd (let e : One ≡ Two = version_one f One Two rs qs was.stand stands in cc)
-into_live since fails f bare One rs j file (inr ((first, second), so)) was h =
+into_live since fails f bare One rs j file (inr ((first, second, new), so)) was h =
     let (live, none) = bodiless_live f j.live was.bodies first second was.live in h (was.end ∙ ap (λ z. length (frames z)) none)
 
 -- and whether the other one's first gate is to be shut stays
 pub still_unshut : (since fails : ℕ) (f : Files) (bare : Bool) (version : Version) (rs : List Record) (j k : Journal) → StartsFrom since fails f → ReadOf f bare version rs j → IsJournalBehind version j k → k.unshut ≡ j.unshut
 still_unshut since fails f bare Two rs j k from was h = h.unshut
 still_unshut since fails f bare One rs j k (inl (qs, stands)) was h = absurd (let e : One ≡ Two = version_one f One Two rs qs was.stand stands in cc)
-still_unshut since fails f bare One rs j k (inr ((first, second), so)) was h =
+still_unshut since fails f bare One rs j k (inr ((first, second, new), so)) was h =
     let (live, none) = bodiless_live f j.live was.bodies first second was.live in (h.0 (was.end ∙ ap (λ z. length (frames z)) none)).unshut
 
 -- Where none of the two calls fails that write a first gate, one before them did.
@@ -172,9 +172,9 @@ module _ (hold : LinksHold) (fail : CallsFailAsTold) (want : StartsFailForWant) 
 
     gated : FilesOf f One [] → BreaksOff (syncs ++ shuts) C.made → StartsFrom since fails f → StartedSo since fails f made (Err faults.Disk)
     gated empty b (inl (qs, stands)) = absurd (let e : One ≡ Two = version_one f One Two [] qs (record { texts = []; is = empty; are = tt }) stands in cc)
-    gated empty b (inr ((first, second), inl short)) =
+    gated empty b (inr ((first, second, new), inl short)) =
         StartedSo.down refl (syncs ++ shuts) (Stage.at_gate refl (λ bare version rs j was. was.when.1 ((bodiless_live f j.live was.bodies first second was.live).0, short))) (off (syncs ++ shuts) b) some
-    gated empty b (inr ((first, second), inr (third, fourth))) = StartedSo.down refl syncs (Stage.at_sync refl) (in_syncs since fails made third fourth (off (syncs ++ shuts) b) some) some
+    gated empty b (inr ((first, second, new), inr (third, fourth))) = StartedSo.down refl syncs (Stage.at_sync refl) (in_syncs since fails made third fourth (off (syncs ++ shuts) b) some) some
 
     stage : FailsAt C.made (told_of old) ⊎ BeganTo (λ calls. BreaksOff calls C.made) (told_of old) → StartedSo since fails f made (Err faults.Disk)
     stage (inl (sync b)) = StartedSo.down refl syncs (Stage.at_sync refl) (off syncs b) some
@@ -203,10 +203,10 @@ module _ (hold : LinksHold) (fail : CallsFailAsTold) (want : StartsFailForWant) 
 
   stands_so : StartsFrom since fails f → HasLeft f → (rs : List Record) × StandSo rs f × (last_incarnation rs < 4294967295)
   stands_so (inl (rs, stands)) left = (rs, inl stands, left Two rs stands)
-  stands_so (inr ((first, second), so)) left = ([], inr (refl, record { texts = []; is = empty; are = tt }), omega arith)
+  stands_so (inr ((first, second, new), so)) left = ([], inr (refl, record { texts = []; is = empty; are = tt }), omega arith)
     where
       empty : FilesOf f One []
-      empty = record { live = 0; bodies = []; others = []; is = first; other = second; newer = omega arith; versions = refl; all = refl }
+      empty = record { live = 0; bodies = []; others = []; is = first; other = second; newer = omega arith; journal = new; versions = refl; all = refl }
 
   can : (result : Result Node StartFault) → HasBegun base fails result old new made → HasLeft f → CanBegin old
   can result H left = let (rs, stands, least) = stands_so H.from left in record { records = rs; stand = stands; least = least; room = H.room }
@@ -225,5 +225,6 @@ module _ (hold : LinksHold) (fail : CallsFailAsTold) (want : StartsFailForWant) 
   did_start (Err faults.NoMemory) H = absurd ((untried faults.NoMemory (λ tried. tried) H).1 refl)
   did_start (Err (faults.Bad file place)) H =
       absurd (want base (faults.Bad file place) old new (can (Err (faults.Bad file place)) H (untried (faults.Bad file place) (λ tried. tried) H).0) H.begins)
+  did_start (Err faults.NoJournal) H = absurd (want base faults.NoJournal old new (can (Err faults.NoJournal) H (untried faults.NoJournal (λ tried. tried) H).0) H.begins)
   did_start (Err faults.Spent) H = absurd (want base faults.Spent old new (can (Err faults.Spent) H (untried faults.Spent (λ tried. tried) H).0) H.begins)
   did_start (Err faults.Full) H = absurd (want base faults.Full old new (can (Err faults.Full) H (untried faults.Full (λ tried. tried) H).0) H.begins)

@@ -6,11 +6,11 @@ use Rattle.std.proofs.lemmas.List.{append_assoc}
 use Rattle.at_base.specs.declared.record.Record.{Record}
 use Rattle.decision_log.specs.KeptRecords.{Known}
 use Rattle.http_post.specs.Conversations.{IsSaid, Waits, said, unsaid}
-use Rattle.journal_at.specs.Format.{frames}
+use Rattle.journal_at.specs.Format.{frames, head_of}
 use Rattle.journal_at.specs.StandingBodies.{Keeps, Makes, Spare}
 use Rattle.journal_at.specs.declared.journal.Append.TheVariants as appends
 use Rattle.journal_at.specs.declared.journal.Journal.{Journal}
-use Rattle.journal_at.specs.declared.version.Version.TheVariants.{Two}
+use Rattle.journal_at.specs.declared.version.Version.TheVariants.{One, Two}
 use Rattle.node_at.specs.Doings.{AreDoings, AreFates, Doing, Ran, calls_of, deeds_of, lost_of}
 use Rattle.node_at.specs.Endings.{Ends, Renews, Rested, TakesTurn}
 use Rattle.node_at.specs.Meanings.{Hears, Meaning, next_input}
@@ -57,6 +57,11 @@ use Rattle.determined_nodes.proofs.StepsBehind.{LeftBy}
 use Rattle.determined_nodes.proofs.TriedOuts.{due_unrecorded, rows_quiet, tried_sendings}
 use Rattle.determined_nodes.proofs.TwoRuns.{DidSteps}
 use Rattle.determined_nodes.proofs.TwoTurns.{Hearing, LineIs, Went, turned_of}
+
+-- a file of version 2 has a body
+two_begun : (bodies more : List (List ℕ)) (end : ℕ) → (head_of bodies).version ≡ Two → end ≡ length (frames (bodies ++ more)) → 1 ≤ end
+two_begun [] more end two e = absurd (let one : One ≡ Two = two in cc)
+two_begun (body ∷ bodies) more end two e = omega (arith, e)
 
 -- A machine of the same files keeps the same.
 pub keeps_on : (j : Journal) (bodies : List (List ℕ)) (s t : MemSite) → opening_in s.device ≡ opening_in t.device → calls_in s.device ≡ calls_in t.device → Keeps j bodies (told_of s) → Keeps j bodies (told_of t)
@@ -221,7 +226,8 @@ module _ (hold : LinksHold) (fail : CallsFailAsTold) (reply : StepsReply) (law :
 
     abbrev E : EndsSo turn.node (seen m) turn.behind new
     E =
-        ends_so turn.node (seen m) turn.behind new (ran.sure ∙ H.goes.open_is.sure) (bodies ++ landed_of (deeds_of (line_of W.line ++ (d ∷ ds)))) (ran.does.stands bodies keeps) m.shrunk H.remembers ends.shrinks ends.idle
+        ends_so turn.node (seen m) turn.behind new (ran.sure ∙ H.goes.open_is.sure) (bodies ++ landed_of (deeds_of (line_of W.line ++ (d ∷ ds)))) (ran.does.stands bodies keeps)
+        (two_begun bodies _ turn.node.journal.end H.goes.open_is.of (ran.does.stands bodies keeps).end) m.shrunk H.remembers ends.shrinks ends.idle
 
     abbrev steps_calls : List Made
     steps_calls = calls_of (d ∷ ds)

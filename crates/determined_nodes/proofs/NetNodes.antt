@@ -25,7 +25,7 @@ one_waits : (waits : Bool) (lines : ℕ) → true ≡ waits → lines ≡ one_if
 one_waits waits lines e f = f ∙ ap one_if (sym e)
 
 empty_from : (since fails : ℕ) (f : Files) → f ≡ record { first = []; second = [] } → StartsFrom since fails f
-empty_from since fails f e = subst (StartsFrom since fails) (sym e) (inr ((none, none), inl (omega arith)))
+empty_from since fails f e = subst (StartsFrom since fails) (sym e) (inr ((none, none, record { first = omega arith; second = omega arith }), inl (omega arith)))
   where
     none : FileOf [] []
     none = record { listed = record { sized = tt; placed = tt }; is = inl (omega arith, refl) }

@@ -28,12 +28,12 @@ one_older bs cs ds es e f l m = omega (arith, l, m, ap (λ z. (head_of z).genera
 
 -- one file is live
 pub lives_one : (c : Files) (i j : ℕ) (bs cs : List (List ℕ)) → i ≤ 1 → j ≤ 1 → HasLive i bs c → HasLive j cs c → (i ≡ j) × (bs ≡ cs)
-lives_one c zero zero bs cs l m (h, older) (k, newer) = (refl, file_one c.first bs cs h k)
-lives_one c zero (suc j) bs cs l m (h, older) (k, newer) =
+lives_one c zero zero bs cs l m (h, older, ours) (k, newer, also) = (refl, file_one c.first bs cs h k)
+lives_one c zero (suc j) bs cs l m (h, older, ours) (k, newer, also) =
     absurd (one_older bs cs older.others newer.others (file_one c.first bs newer.others h newer.is) (file_one c.second older.others cs older.is k) older.newer newer.newer)
-lives_one c (suc i) zero bs cs l m (h, older) (k, newer) =
+lives_one c (suc i) zero bs cs l m (h, older, ours) (k, newer, also) =
     absurd (one_older cs bs newer.others older.others (file_one c.first cs older.others k older.is) (file_one c.second newer.others bs newer.is h) newer.newer older.newer)
-lives_one c (suc i) (suc j) bs cs l m (h, older) (k, newer) = (omega (arith, l, m), file_one c.second bs cs h k)
+lives_one c (suc i) (suc j) bs cs l m (h, older, ours) (k, newer, also) = (omega (arith, l, m), file_one c.second bs cs h k)
 
 gate_one : (a b : Bool) (f : List ℕ) → IsGate a f → IsGate b f → a ≡ b
 gate_one true true f h k = refl
@@ -124,8 +124,8 @@ rows_one apart f xs ys h k =
 
 -- where neither file has a body, file 0 is live
 pub bodiless_live : (f : Files) (live : ℕ) (bodies : List (List ℕ)) → FileOf f.first [] → FileOf f.second [] → HasLive live bodies f → (live ≡ 0) × (bodies ≡ [])
-bodiless_live f zero bodies first second (h, older) = (refl, file_one f.first bodies [] h first)
-bodiless_live f (suc n) bodies first second (h, older) =
+bodiless_live f zero bodies first second (h, older, ours) = (refl, file_one f.first bodies [] h first)
+bodiless_live f (suc n) bodies first second (h, older, ours) =
     let none = file_one f.second bodies [] h second in
     let others = file_one f.first older.others [] older.is first in
     let less = older.newer in

@@ -56,7 +56,7 @@ pub record EndsSo (n m : State) (old new : MemSite) : Type 0 where
   pub failed : 1 ≤ refusals anew → RoseBetween old new
   pub ended : (before fails : ℕ) → AreArmed before fails anew → (RoseBetween old new → 1 ≤ refusals anew) → Ended before fails n m anew
 
-module _ (n m : State) (old new : MemSite) (sure : n.journal.unsure ≡ false) (bodies : List (List ℕ)) (keeps : Keeps n.journal bodies (told_of old)) where
+module _ (n m : State) (old new : MemSite) (sure : n.journal.unsure ≡ false) (bodies : List (List ℕ)) (keeps : Keeps n.journal bodies (told_of old)) (least : 1 ≤ n.journal.end) where
   idles : (IsDue n → ⊥) → m ≡ n → new ≡ old → EndsSo n m old new
   idles undue same e = record {
     anew = [];
@@ -94,7 +94,7 @@ module _ (n m : State) (old new : MemSite) (sure : n.journal.unsure ≡ false) (
   written : (r : Compact) (halted : Bool) → halted ≡ halted_by r n.halted → Anew r halted n m (told_of old) (told_of new) → EndsSo n m old new
   written r halted is a =
       let moves = a.compacted.moves sure in
-      let all = a.compacted.compacted bodies sure keeps in
+      let all = a.compacted.compacted bodies sure keeps least in
       record {
         anew = moves.made;
         grown = same_calls (calls_in new.device) (calls_in old.device ++ moves.made) moves.grown;

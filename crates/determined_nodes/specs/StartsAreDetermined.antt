@@ -3,6 +3,7 @@ use Rattle.std.specs.Prelude.{ℕ, List, [], ◌+◌, Err, Ok, Result, Some, ◌
 use Rattle.at_base.specs.declared.record.Record.{Record}
 use Rattle.at_model.specs.Recovery.{last_incarnation}
 use Rattle.journal_at.specs.Format.{FileOf}
+use Rattle.journal_at.specs.Pairs.{AreNew}
 use Rattle.journal_at.specs.declared.version.Version.{Version}
 use Rattle.journal_at.specs.declared.version.Version.TheVariants.{Two}
 use Rattle.memory_net.specs.Calls.{Begins}
@@ -20,11 +21,11 @@ use Rattle.site_model.specs.Told.{Files, Made}
 use Rattle.determined_nodes.specs.AlikeCalls.{MachinesAlike}
 use Rattle.determined_nodes.specs.SameNodes.{IsSameBehind, IsSameMachine}
 
--- neither file has a body
+-- neither file has a body, and both are those of a new journal
 abbrev pub HasNoBody : Files → Type 0
-HasNoBody f = FileOf f.first [] × FileOf f.second []
+HasNoBody f = FileOf f.first [] × FileOf f.second [] × AreNew f
 
--- Behind so many calls: files of version 2; or files without bodies, of which the first has at most one byte, or none of the two calls is to fail by
+-- Behind so many calls: files of version 2; or the files of a new journal, without bodies, of which the first has at most one byte, or none of the two calls is to fail by
 -- which a first gate would be written.
 abbrev pub StartsFrom : (since fails : ℕ) → Files → Type 0
 StartsFrom since fails f =

@@ -17,6 +17,7 @@ holds_files live bodies c l h =
       is = record { listed = l; is = inr h.closed };
       other = h.beside.is;
       newer = h.beside.newer;
+      journal = h.journal;
       versions = refl;
       all = refl;
     }

@@ -1,5 +1,5 @@
 -- A text that is opened in the other file.
-use Rattle.std.proofs.Common.{ℕ, List, Bool, Option, Some, Result, Ok, Err, true, false, zero, suc, [], ◌∷◌, length, ◌≡◌, ◌++◌, ◌+◌, ◌-◌, ◌<◌, ◌≤◌, ◌⊎◌, ◌↔◌, inl, inr, ⊎_elim, refl, sym, ◌∙◌, ap, subst, drop, replicate, get_or, option_map, OnOk, arith}
+use Rattle.std.proofs.Common.{ℕ, List, Bool, Option, Some, Result, Ok, Err, true, false, zero, suc, [], ◌∷◌, length, ◌≡◌, ◌≢◌, ◌++◌, ◌+◌, ◌-◌, ◌<◌, ◌≤◌, ◌⊎◌, ◌↔◌, inl, inr, ⊎_elim, refl, sym, ◌∙◌, ap, subst, drop, replicate, get_or, option_map, OnOk, arith}
 use Rattle.std.specs.Int.{from_be_bytes, to_be_bytes, w32}
 use Rattle.std.proofs.lemmas.Bool.{cases_eq}
 use Rattle.std.proofs.lemmas.List.{append_assoc, length-append}
@@ -10,7 +10,7 @@ use Rattle.site_model.specs.Told.{Told, Call, Files, Is, Between, Elapses, Settl
 use Rattle.journal_at.specs.declared.journal.Journal.{Journal}
 use Rattle.journal_at.specs.declared.journal.Compact.TheVariants.{Done, Kept, Unsure}
 use Rattle.journal_at.specs.declared.version.Version.TheVariants.{Two}
-use Rattle.journal_at.specs.Compactions.{Acts, Fills, Flips, IsFile, IsFilled, Moves, Prepares, Readies, Safe, prepare_calls, text_of}
+use Rattle.journal_at.specs.Compactions.{Acts, Fills, Flips, IsEnd, IsFile, IsFilled, Moves, Prepares, Readies, Safe, prepare_calls, text_of}
 use Rattle.journal_at.specs.Format.{AreBodies, AreListed, AreUnmarked, Closed, FileOf, IsBody, Mark, behind, frames, head_of, mark_body, mark_of, marked}
 use Rattle.journal_at.specs.Pairs.{Holds, IsLive}
 use Rattle.journal_at.specs.Scans.{IsGate}
@@ -73,7 +73,7 @@ gate_of true (b ∷ bodies) f end e more none h = inr ((behind b ++ frames bodie
 gate_of false [] f end e more none h = record { gate = h.gate; rest = h.rest; shut = h.shut; is = h.is }
 gate_of false (b ∷ bodies) f end e more none h = absurd (omega (arith, e, none refl))
 
-module _ (w o : ℕ) (flip : Flips w o) (bodies texts : List (List ℕ)) (g : ℕ) (text : List ℕ) (written_is : text ≡ text_of g texts) (listed : AreListed bodies) (newer : (head_of bodies).generation < (head_of (mark_body g ∷ texts)).generation) where
+module _ (w o : ℕ) (flip : Flips w o) (bodies texts : List (List ℕ)) (g : ℕ) (text : List ℕ) (written_is : text ≡ text_of g texts) (listed : AreListed bodies) (newer : (head_of bodies).generation < (head_of (mark_body g ∷ texts)).generation) (some : bodies ≢ []) where
   abbrev pub more : List (List ℕ)
   more = mark_body g ∷ texts
 
@@ -85,6 +85,7 @@ module _ (w o : ℕ) (flip : Flips w o) (bodies texts : List (List ℕ)) (g : �
       record {
         closed = subst (Closed more) (sym (flip.of c)) k;
         beside = record { others = bodies; is = subst (λ z. FileOf z bodies) (sym (flip.than c ∙ e)) (file_still d h); newer = newer_live o bodies more newer };
+        journal = tt;
       }
 
   pub opened_text : (f rest : List ℕ) → f ≡ 1 ∷ (text ++ rest) → Closed more f
@@ -97,7 +98,7 @@ module _ (w o : ℕ) (flip : Flips w o) (bodies texts : List (List ℕ)) (g : �
       first_torn (other_than w d) (other_than w c) (omega (arith, ap length h.is)) (torn_of w o flip bodies 0 1 d c t) ∙ ap (λ z. get_or (other_than w c) 0 0 ∷ drop 1 z) h.is in
       ⊎_elim
       (λ one. inr (holds_more d c h.holds main (opened_text _ h.rest (is ∙ ap (λ z. z ∷ (text ++ h.rest)) one))))
-      (λ other. inl (holds_shut w o flip bodies d c h.holds main (record { gate = get_or (other_than w c) 0 0; rest = text ++ h.rest; shut = other; is = is })))
+      (λ other. inl (holds_shut w o flip bodies d c some h.holds main (record { gate = get_or (other_than w c) 0 0; rest = text ++ h.rest; shut = other; is = is })))
       (cases_eq (get_or (other_than w c) 0 0) 1)
 
   pub raised_text : (d f : Files) → IsFilled w bodies text d → f ≡ with_file o (written 0 (1 ∷ [])) d → Closed more (other_than w f)
@@ -148,8 +149,8 @@ module _ (w o : ℕ) (flip : Flips w o) (bodies texts : List (List ℕ)) (g : �
         image c im = let (d, was, closed, main) = opened_image c im in old_one d c (fills.images d was).holds main
 
 -- the whole call
-pub safe_of : (journal : Journal) (bodies : List (List ℕ)) (s : Told) → Keeps journal bodies s → Safe journal.unshut journal.live bodies s
-safe_of journal bodies s h = record { stands = h.stands; spare = h.spare }
+pub safe_of : (journal : Journal) (bodies : List (List ℕ)) (s : Told) → Keeps journal bodies s → bodies ≢ [] → Safe journal.unshut journal.live bodies s
+safe_of journal bodies s h some = record { stands = h.stands; some = some; spare = h.spare }
 
 pub newer_of : (journal : Journal) (bodies texts : List (List ℕ)) (s : Told) → Keeps journal bodies s → journal.generation < 4294967295 → (head_of bodies).generation < (head_of (mark_body (journal.generation + 1) ∷ texts)).generation
 newer_of journal bodies texts s h l = omega (arith, h.generation, later_generation (journal.generation + 1) texts (omega (arith, l)))
@@ -175,30 +176,32 @@ has_gate false end more none = (more, λ k. absurd (omega (arith, k, none refl))
 -- the calls, and the journal behind them
 module _ (text : List ℕ) (before after : Journal) (old mid new : Told) where
   pub moves_unsure : {T U E F : Type 0} (r : Result T E) (x : T) (q : Result U F) (y : F) → r ≡ Ok x → q ≡ Err y → Acts (prepare_calls before.unshut (1 - before.live) text) r old mid → Raised (1 - before.live) 0 q mid new
-      → IsFile Unsure before after → after.unshut ≡ false → Moves Unsure text before after old new
-  moves_unsure r x q y e f h k file shut =
+      → IsFile Unsure before after → IsEnd Unsure text before after → after.unshut ≡ false → Moves Unsure text before after old new
+  moves_unsure r x q y e f h k file end shut =
       let a = all_ran (prepare_calls before.unshut (1 - before.live) text) r x old mid e h.runs in
       record {
         made = a.made ++ k.calls.made;
         are = (k.calls.made, ap (λ z. z ++ k.calls.made) a.is, subst (λ z. Outcome (raise (1 - before.live) 0) z k.calls.made) f k.calls.outcome);
         file = file;
+        end = end;
         unshut = shut;
         grown = grown_then old.calls mid.calls new.calls a.made k.calls.made a.grown k.calls.grown;
       }
 
   pub moves_done : {T U E F : Type 0} (r : Result T E) (x : T) (q : Result U F) (y : U) → r ≡ Ok x → q ≡ Ok y → Acts (prepare_calls before.unshut (1 - before.live) text) r old mid → Raised (1 - before.live) 0 q mid new
-      → IsFile Done before after → (after.unshut ≡ true → 1 ≤ before.end) → (after.unshut ≡ false → before.end ≡ 0) → Moves Done text before after old new
-  moves_done r x q y e f h k file more none =
+      → IsFile Done before after → IsEnd Done text before after → (after.unshut ≡ true → 1 ≤ before.end) → (after.unshut ≡ false → before.end ≡ 0) → Moves Done text before after old new
+  moves_done r x q y e f h k file end more none =
       let a = all_ran (prepare_calls before.unshut (1 - before.live) text) r x old mid e h.runs in
       record {
         made = a.made ++ k.calls.made;
         are = (λ i. a.is i ++ subst (λ z. Outcome (raise (1 - before.live) 0) z k.calls.made) f k.calls.outcome i);
         file = file;
+        end = end;
         unshut = has_gate after.unshut before.end more none;
         grown = grown_then old.calls mid.calls new.calls a.made k.calls.made a.grown k.calls.grown;
       }
 
 pub moves_kept : {T E : Type 0} (text : List ℕ) (before after : Journal) (old new : Told) (r : Result T E) (x : E) → r ≡ Err x → Readies (prepare_calls before.unshut (1 - before.live) text) before.unshut after.unshut r old new
-    → IsFile Kept before after → Moves Kept text before after old new
-moves_kept text before after old new r x e h file =
-    record { made = h.acts.runs.made; are = subst (λ z. Outcome (prepare_calls before.unshut (1 - before.live) text) z h.acts.runs.made) e h.acts.runs.outcome; file = file; unshut = h.flag; grown = h.acts.runs.grown }
+    → IsFile Kept before after → IsEnd Kept text before after → Moves Kept text before after old new
+moves_kept text before after old new r x e h file end =
+    record { made = h.acts.runs.made; are = subst (λ z. Outcome (prepare_calls before.unshut (1 - before.live) text) z h.acts.runs.made) e h.acts.runs.outcome; file = file; end = end; unshut = h.flag; grown = h.acts.runs.grown }

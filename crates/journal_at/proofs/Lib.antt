@@ -12,6 +12,7 @@ pub mod DeviceCalls
 pub mod SyncedFiles
 pub mod SpareFiles
 pub mod OtherFiles
+pub mod NewJournals
 pub mod FileSwitches
 pub mod Texts
 pub mod TornWrites

@@ -1,5 +1,5 @@
 -- What the file that isn't live holds while it is made ready.
-use Rattle.std.proofs.Common.{ℕ, List, Bool, Result, Ok, Err, true, false, zero, suc, [], ◌∷◌, length, ◌≡◌, ◌++◌, ◌+◌, ◌-◌, ◌≤◌, ⊎_elim, refl, sym, ◌∙◌, ap, subst, take, drop, replicate, option_map, OnOk, OnErr, arith}
+use Rattle.std.proofs.Common.{ℕ, List, Bool, Result, Ok, Err, true, false, zero, suc, [], ◌∷◌, length, ◌≡◌, ◌≢◌, ◌++◌, ◌+◌, ◌-◌, ◌≤◌, ⊎_elim, refl, sym, ◌∙◌, ap, subst, take, drop, replicate, option_map, OnOk, OnErr, arith}
 use Rattle.std.proofs.lemmas.List.{take-append-drop}
 use Rattle.site_model.proofs.Past.{weaker}
 use Rattle.site_model.specs.Calls.{Synced, Wrote}
@@ -11,6 +11,7 @@ use Rattle.journal_at.specs.Frames.{IsShut}
 use Rattle.journal_at.specs.StandingBodies.{Laid, MayShut, Spare}
 use Rattle.journal_at.proofs.Appends.{file_with, other_with}
 use Rattle.journal_at.proofs.DeviceCalls.{is_last, option_map_is}
+use Rattle.journal_at.proofs.NewJournals.{journal_some}
 use Rattle.journal_at.proofs.OtherFiles.{beside_shut, may_torn}
 
 pub flips : (w : ℕ) → w ≤ 1 → Flips w (1 - w)
@@ -42,14 +43,14 @@ module _ (w o : ℕ) (flip : Flips w o) (bodies : List (List ℕ)) where
   pub changed_with : (change : List ℕ → List ℕ) (f : Files) → other_than w (with_file o change f) ≡ change (other_than w f)
   changed_with change f = sym (flip.of (with_file o change f)) ∙ file_with o change f ∙ ap change (flip.of f)
 
-  pub holds_beside : (d c : Files) → Holds w bodies d → file_of w c ≡ file_of w d → Beside w bodies (other_than w c) → Holds w bodies c
-  holds_beside d c h e b = record { closed = subst (Closed bodies) (sym e) h.closed; beside = b }
+  pub holds_beside : (d c : Files) → bodies ≢ [] → Holds w bodies d → file_of w c ≡ file_of w d → Beside w bodies (other_than w c) → Holds w bodies c
+  holds_beside d c some h e b = record { closed = subst (Closed bodies) (sym e) h.closed; beside = b; journal = journal_some bodies c some }
 
-  pub holds_shut : (d c : Files) → Holds w bodies d → file_of w c ≡ file_of w d → IsShut (other_than w c) → Holds w bodies c
-  holds_shut d c h e s = holds_beside d c h e (beside_shut w bodies _ _ h.beside s)
+  pub holds_shut : (d c : Files) → bodies ≢ [] → Holds w bodies d → file_of w c ≡ file_of w d → IsShut (other_than w c) → Holds w bodies c
+  holds_shut d c some h e s = holds_beside d c some h e (beside_shut w bodies _ _ h.beside s)
 
-  pub holds_torn : (d c : Files) → Holds w bodies d → MayShut w bodies (other_than w d) → TornIn o 0 1 d c → Holds w bodies c
-  holds_torn d c h m t = holds_beside d c h (main_of 0 1 d c t) (m.any _ (torn_of 0 1 d c t))
+  pub holds_torn : (d c : Files) → bodies ≢ [] → Holds w bodies d → MayShut w bodies (other_than w d) → TornIn o 0 1 d c → Holds w bodies c
+  holds_torn d c some h m t = holds_beside d c some h (main_of 0 1 d c t) (m.any _ (torn_of 0 1 d c t))
 
   pub may_still : (d c : Files) → MayShut w bodies (other_than w d) → TornIn o 0 1 d c → MayShut w bodies (other_than w c)
   may_still d c m t = may_torn w bodies _ _ m (torn_of 0 1 d c t)
@@ -57,10 +58,10 @@ module _ (w o : ℕ) (flip : Flips w o) (bodies : List (List ℕ)) where
   -- the first gate is written
   module _ (old new : Told) (safe : Safe true w bodies old) where
     pub gate_image : (c : Files) → TornFrom o 0 1 old.images c → Holds w bodies c × MayShut w bodies (other_than w c)
-    gate_image c (d, was, t) = (holds_torn d c (safe.stands.images d was) (safe.spare.1 d was) t, may_still d c (safe.spare.1 d was) t)
+    gate_image c (d, was, t) = (holds_torn d c safe.some (safe.stands.images d was) (safe.spare.1 d was) t, may_still d c (safe.spare.1 d was) t)
 
     pub gate_file : (c : Files) → TornFrom o 0 1 (Is old.files) c → Holds w bodies c × MayShut w bodies (other_than w c)
-    gate_file c (d, was, t) = (holds_torn d c (safe.stands.files d was) (safe.spare.0 d was) t, may_still d c (safe.spare.0 d was) t)
+    gate_file c (d, was, t) = (holds_torn d c safe.some (safe.stands.files d was) (safe.spare.0 d was) t, may_still d c (safe.spare.0 d was) t)
 
     pub gate_time : {T E : Type 0} (r : Result T E) → Wrote o 0 (0 ∷ []) r old new → Elapses old new (λ l c. Between old new l × Holds w bodies c)
     gate_time r h = weaker old new _ _ h.time (λ l c n. (is_last old new h.calls.made l h.calls.grown n.0, (gate_image c (h.images c n.1)).0))
@@ -70,6 +71,7 @@ module _ (w o : ℕ) (flip : Flips w o) (bodies : List (List ℕ)) where
         record {
           safe = record {
             stands = record { listed = safe.stands.listed; files = λ f is. (gate_file f (torn f is)).0; images = λ c im. (gate_image c (h.images c im)).0 };
+            some = safe.some;
             spare = ((λ f is. (gate_file f (torn f is)).1), (λ c im. (gate_image c (h.images c im)).1));
           };
           time = gate_time r h;
@@ -82,6 +84,7 @@ module _ (w o : ℕ) (flip : Flips w o) (bodies : List (List ℕ)) where
         record {
           safe = record {
             stands = record { listed = safe.stands.listed; files = λ f is. (file f is).0; images = λ c im. (gate_image c (h.images c im)).0 };
+            some = safe.some;
             spare = λ f is. (file f is).1;
           };
           time = gate_time r h;
@@ -91,7 +94,7 @@ module _ (w o : ℕ) (flip : Flips w o) (bodies : List (List ℕ)) where
               let now : new.files ≡ option_map (with_file o (written 0 (0 ∷ []))) old.files = subst (λ z. OnOk z (new.files ≡ option_map (with_file o (written 0 (0 ∷ []))) old.files)) e h.done in
               let (g, was, same) = option_map_is (with_file o (written 0 (0 ∷ []))) old.files f (sym now ∙ is) in
               let s : IsShut (other_than w f) = subst IsShut (sym (ap (other_than w) same ∙ changed_with (written 0 (0 ∷ [])) g)) (shut_written (other_than w g)) in
-              (holds_shut g f (safe.stands.files g was) (ap (file_of w) same ∙ main_with (written 0 (0 ∷ [])) g) s, s)
+              (holds_shut g f safe.some (safe.stands.files g was) (ap (file_of w) same ∙ main_with (written 0 (0 ∷ [])) g) s, s)
 
   -- it is synced
   pub spare_within : (u : Bool) (old new : Told) → new.files ≡ old.files → ((c : Files) → new.images c → old.images c) → Spare u w bodies old → Spare u w bodies new
@@ -103,6 +106,7 @@ module _ (w o : ℕ) (flip : Flips w o) (bodies : List (List ℕ)) where
       record {
         safe = record {
           stands = record { listed = safe.stands.listed; files = λ f is. safe.stands.files f (sym h.files ∙ is); images = λ c im. safe.stands.images c (h.images c im) };
+          some = safe.some;
           spare = spare_within u old new h.files h.images safe.spare;
         };
         time = weaker old new _ _ h.time (λ l c n. (is_last old new h.calls.made l h.calls.grown n.0, safe.stands.images c (h.images c n.1)));
@@ -117,12 +121,12 @@ module _ (w o : ℕ) (flip : Flips w o) (bodies : List (List ℕ)) where
     pub text_image : (c : Files) → TornFrom o 1 (length text) old.images c → Holds w bodies c × IsShut (other_than w c)
     text_image c (d, was, t) =
         let s = shut_torn (length text) _ _ (shut d was) (torn_of 1 (length text) d c t) in
-        (holds_shut d c (safe.stands.images d was) (main_of 1 (length text) d c t) s, s)
+        (holds_shut d c safe.some (safe.stands.images d was) (main_of 1 (length text) d c t) s, s)
 
     pub text_torn : (c : Files) → TornFrom o 1 (length text) (Is old.files) c → Holds w bodies c × IsShut (other_than w c)
     text_torn c (d, was, t) =
         let s = shut_torn (length text) _ _ (safe.spare d was) (torn_of 1 (length text) d c t) in
-        (holds_shut d c (safe.stands.files d was) (main_of 1 (length text) d c t) s, s)
+        (holds_shut d c safe.some (safe.stands.files d was) (main_of 1 (length text) d c t) s, s)
 
     pub filled : (g f : Files) → Is old.files g → f ≡ with_file o (written 1 text) g → IsFilled w bodies text f
     filled g f was same =
@@ -137,7 +141,7 @@ module _ (w o : ℕ) (flip : Flips w o) (bodies : List (List ℕ)) where
           rest = back;
           shut = s.shut;
           is = is;
-          holds = holds_shut g f (safe.stands.files g was) (ap (file_of w) same ∙ main_with (written 1 text) g) (record { gate = s.gate; rest = text ++ back; shut = s.shut; is = is });
+          holds = holds_shut g f safe.some (safe.stands.files g was) (ap (file_of w) same ∙ main_with (written 1 text) g) (record { gate = s.gate; rest = text ++ back; shut = s.shut; is = is });
         }
 
     pub filled_shut : (f : Files) → IsFilled w bodies text f → IsShut (other_than w f)
@@ -156,7 +160,7 @@ module _ (w o : ℕ) (flip : Flips w o) (bodies : List (List ℕ)) where
           let (f, is, one) = h.settled c im in
           let k = file f is in
           record { gate = k.gate; rest = k.rest; shut = k.shut; is = sym (flip.of c) ∙ one ∙ flip.of f ∙ k.is; holds = (text_image c (h.images c im)).0 }
-    prepared (Err x) u e h = subst (λ z. Safe z w bodies new) (sym e) (record { stands = record { listed = safe.stands.listed; files = λ f is. (file f is).0; images = λ c im. (text_image c (h.images c im)).0 }; spare = λ f is. (file f is).1 }) where
+    prepared (Err x) u e h = subst (λ z. Safe z w bodies new) (sym e) (record { stands = record { listed = safe.stands.listed; files = λ f is. (file f is).0; images = λ c im. (text_image c (h.images c im)).0 }; some = safe.some; spare = λ f is. (file f is).1 }) where
       file : (f : Files) → Is new.files f → Holds w bodies f × IsShut (other_than w f)
       file f is =
           ⊎_elim

@@ -7,7 +7,7 @@ use Rattle.site_model.specs.Calls.{Outcome, Synced}
 use Rattle.site_model.specs.Told.{Told, Files, Made, Is, Within, Between, Settled, done}
 use Rattle.site_model.specs.Told.Call.{Sync}
 use Rattle.journal_at.specs.declared.load.LoadFault.{LoadFault}
-use Rattle.journal_at.specs.declared.load.LoadFault.TheVariants.{NoMemory, Disk, Bad}
+use Rattle.journal_at.specs.declared.load.LoadFault.TheVariants.{NoMemory, Disk, Bad, NoJournal}
 use Rattle.journal_at.specs.declared.scan.Both.{Both}
 use Rattle.journal_at.specs.declared.scan.Scan.{Scan}
 use Rattle.journal_at.specs.Loads.{Ends, Fails, IsCause, LoadCause, Quiet, Ready, Rests, Settles, Surveys, syncs}
@@ -125,11 +125,13 @@ fails_ready e old new cause h =
       ends NoMemory = (refl, h.files, h.images)
       ends Disk = read refl
       ends (Bad file place) = (refl, h.files, h.images)
+      ends NoJournal = (refl, h.files, h.images)
 
 pub cause_later : (e : LoadFault) (old mid new : Told) → old.counts.disk ≤ mid.counts.disk → mid.files ≡ old.files → IsCause e mid new → IsCause e old new
 cause_later NoMemory old mid new h k cause = tt
 cause_later Disk old mid new h k cause = rose_later old.counts.disk mid.counts.disk new.counts.disk h cause
 cause_later (Bad file place) old mid new h k cause = λ f is. cause f (k ∙ is)
+cause_later NoJournal old mid new h k cause = λ f is. cause f (k ∙ is)
 
 pub fails_look : {T E : Type 0} (r : Result T E) (x : T) (e : LoadFault) (old mid new : Told) → r ≡ Ok x → Settles r old mid → Quiet mid new → IsCause e mid new → Fails e old new
 fails_look r x e old mid new rx h q cause = fails_ready e old new (cause_later e old mid new h.counts.cause.later h.files cause) (ready_of r x old mid new rx h q)

@@ -1,5 +1,5 @@
 -- What a compaction writes, and what it leaves.
-use Rattle.std.specs.Prelude.{ℕ, List, Bool, Result, Ok, Err, true, false, not, [], ◌∷◌, ◌++◌, ◌+◌, ◌-◌, ◌&&◌, ◌≡◌, ◌≢◌, ◌≤◌, ◌⊎◌, ◌↔◌, map, option_map}
+use Rattle.std.specs.Prelude.{ℕ, List, Bool, Result, Ok, Err, true, false, not, [], ◌∷◌, ◌++◌, ◌+◌, ◌-◌, ◌&&◌, ◌≡◌, ◌≢◌, ◌≤◌, ◌⊎◌, ◌↔◌, length, map, option_map}
 use Rattle.site_model.specs.Counts.{Rose}
 use Rattle.site_model.specs.Site.{OnDisk}
 use Rattle.site_model.specs.Calls.{Runs}
@@ -45,9 +45,10 @@ pub record Readies {T E : Type 0} (calls : List Call) (unshut after : Bool) (res
   pub acts : Acts calls result old new
   pub flag : after ≡ (unshut && fails_first acts.runs.made)
 
--- what was stands, whatever a crash leaves
+-- what was stands, whatever a crash leaves, and has a body
 pub record Safe (unshut : Bool) (live : ℕ) (bodies : List (List ℕ)) (s : Told) : Type 0 where
   pub stands : Stands live bodies s
+  pub some : bodies ≢ []
   pub spare : Spare unshut live bodies s
 
 pub record Saved (unshut : Bool) (live : ℕ) (bodies : List (List ℕ)) (old new : Told) : Type 0 where
@@ -121,6 +122,11 @@ abbrev pub IsFile : Compact → Journal → Journal → Type 0
 IsFile Done before after = (after.live ≡ 1 - before.live) × (after.generation ≡ before.generation + 1)
 IsFile other before after = (after.live ≡ before.live) × (after.generation ≡ before.generation)
 
+-- the place of its last gate
+abbrev pub IsEnd : Compact → (text : List ℕ) → Journal → Journal → Type 0
+IsEnd Done text before after = after.end ≡ length text
+IsEnd other text before after = after.end ≡ before.end
+
 -- Whether the first gate of the file that is then the other one is still to be shut. The file that was live has an open gate,
 -- where it has bodies. A gate that was to be shut still is, where the call failed that shuts it, which is the first.
 abbrev pub IsUnshut : Compact → (unshut : Bool) → (end : ℕ) → List Made → (after : Bool) → Type 0
@@ -134,6 +140,7 @@ pub record Moves (result : Compact) (text : List ℕ) (before after : Journal) (
   pub made : List Made
   pub are : Steps result before.unshut (1 - before.live) text made
   pub file : IsFile result before after
+  pub end : IsEnd result text before after
   pub unshut : IsUnshut result before.unshut before.end made after.unshut
   pub grown : new.calls ≡ option_map (λ l. l ++ made) old.calls
 

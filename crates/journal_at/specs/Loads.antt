@@ -7,13 +7,13 @@ use Rattle.site_model.specs.Told.{Told, Files, Made, Call, Is, Within, Elapses, 
 use Rattle.site_model.specs.Told.Call.{Write, Sync}
 use Rattle.journal_at.specs.declared.journal.Journal.{Journal}
 use Rattle.journal_at.specs.declared.load.LoadFault.{LoadFault}
-use Rattle.journal_at.specs.declared.load.LoadFault.TheVariants.{NoMemory, Disk, Bad}
+use Rattle.journal_at.specs.declared.load.LoadFault.TheVariants.{NoMemory, Disk, Bad, NoJournal}
 use Rattle.journal_at.specs.declared.records.Records.{Records}
 use Rattle.journal_at.specs.declared.scan.Both.{Both}
 use Rattle.journal_at.specs.declared.version.Version.{Version}
 use Rattle.journal_at.specs.declared.version.Version.TheVariants.{One}
 use Rattle.journal_at.specs.Format.{FileOf, head_of, records_of}
-use Rattle.journal_at.specs.Pairs.{FilesOf, HasLive}
+use Rattle.journal_at.specs.Pairs.{FilesOf, HasLive, IsForeign}
 use Rattle.journal_at.specs.Frames.{ArePlaced, IsBadAt}
 use Rattle.journal_at.specs.Scans.{IsGate, IsSeen, records_in}
 use Rattle.journal_at.specs.StandingBodies.{Keeps}
@@ -35,11 +35,13 @@ LookCause file (Ok x) old new = Unit {0}
 LookCause file (Err NoMemory) old new = Unit {0}
 LookCause file (Err Disk) old new = Rose old.counts.disk new.counts.disk
 LookCause file (Err (Bad which place)) old new = (which ≡ file) × ((f : Files) → Is old.files f → IsBadAt place (file_of file f))
+LookCause file (Err NoJournal) old new = ⊥
 
 abbrev pub IsCause : LoadFault → Told → Told → Type 0
 IsCause NoMemory old new = Unit {0}
 IsCause Disk old new = Rose old.counts.disk new.counts.disk
 IsCause (Bad file place) old new = (f : Files) → Is old.files f → IsJudged file place f
+IsCause NoJournal old new = (f : Files) → Is old.files f → IsForeign f
 
 abbrev pub LoadCause : {T : Type 0} → Result T LoadFault → Told → Told → Type 0
 LoadCause (Ok x) old new = Unit {0}
@@ -103,6 +105,7 @@ abbrev pub Ends : LoadFault → List Made → Told → Told → Type 0
 Ends NoMemory made old new = (made ≡ map done syncs) × (new.files ≡ old.files) × Within old.images new.images
 Ends Disk made old new = FailsAt made old
 Ends (Bad file place) made old new = (made ≡ map done syncs) × (new.files ≡ old.files) × Within old.images new.images
+Ends NoJournal made old new = (made ≡ map done syncs) × (new.files ≡ old.files) × Within old.images new.images
 
 pub record Fails (e : LoadFault) (old new : Told) : Type 0 where
   pub cause : IsCause e old new

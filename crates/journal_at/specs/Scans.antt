@@ -36,6 +36,8 @@ pub record IsScan (scan : Scan) (f : List ℕ) : Type 0 where
   pub gate : IsGate scan.unshut f
   pub bare : scan.bare ≡ true → length f ≤ 1
   pub long : scan.bare ≡ false → 1 < length f
+  pub large : scan.large ≡ true → 11 < length f
+  pub small : scan.large ≡ false → length f ≤ 11
 
 -- these are the bytes that reads of a file give
 pub record IsSeen (scan : Scan) (file : ℕ) (s : Told) : Type 0 where
@@ -50,6 +52,19 @@ second_lives both = nat_lt both.first.head.generation both.second.head.generatio
 -- file 0 is live and has at most one byte
 abbrev pub is_bare : Both → Bool
 is_bare both = both.first.bare && not (second_lives both)
+
+-- file 0 is live, it has no body, and a file is longer than those of a new journal
+abbrev pub IsForeignIn : Both → Type 0
+IsForeignIn both = (second_lives both ≡ false) × (listed_in both.first.bodies ≡ []) × ((both.first.large ≡ true) ⊎ (both.second.large ≡ true))
+
+-- where file 0 is live and has no body, both files are those of a new journal
+abbrev pub IsJournalIn : Both → Type 0
+IsJournalIn both = second_lives both ≡ false → listed_in both.first.bodies ≡ [] → (both.first.large ≡ false) × (both.second.large ≡ false)
+
+-- whether the pair is no journal
+abbrev pub Judges : Bool → Both → Type 0
+Judges true both = IsForeignIn both
+Judges false both = IsJournalIn both
 
 abbrev pub records_in : Records → List (List ℕ)
 records_in records = drop records.start (bodies_of records.items.items)

@@ -32,10 +32,16 @@ pub record Keeps (journal : Journal) (bodies : List (List ℕ)) (s : Told) : Typ
   pub end : journal.end ≡ length (frames bodies)
   pub generation : journal.generation ≡ (head_of bodies).generation
 
+-- the first body of a file is no longer than a mark, so that a crash in its append leaves no more than a new journal has
+abbrev pub MayBegin : (bodies : List (List ℕ)) → List ℕ → Type 0
+MayBegin [] body = length body ≤ 5
+MayBegin (other ∷ bodies) body = Unit {0}
+
 -- a mark is appended to an empty file alone, and says no generation
 pub record MayFollow (bodies : List (List ℕ)) (body : List ℕ) : Type 0 where
   pub listed : AreListed (bodies ++ body ∷ [])
   pub generation : (head_of (bodies ++ body ∷ [])).generation ≡ (head_of bodies).generation
+  pub begins : MayBegin bodies body
 
 -- the write of a body with a closed gate, and its sync
 pub record Laid {T E : Type 0} (file at : ℕ) (bytes : List ℕ) (result : Result T E) (old new : Told) : Type 0 where
@@ -88,12 +94,13 @@ pub record Appended (result : Append) (bodies : List (List ℕ)) (body : List �
   pub after : After result bodies body journal new
   pub time : Elapses old new (λ l c. Between old new l × During result journal.live bodies body c)
 
--- what no append changes
+-- what no append changes, and the last gate stands no further to the front
 pub record IsSame (before after : Journal) : Type 0 where
   pub live : after.live ≡ before.live
   pub limit : after.limit ≡ before.limit
   pub generation : after.generation ≡ before.generation
   pub unshut : after.unshut ≡ before.unshut
+  pub end : before.end ≤ after.end
 
 -- why
 abbrev pub HasReason : Append → Journal → Told → Told → Type 0

@@ -24,7 +24,7 @@ impl Journal {
     /// Appends a body behind the live file's last. It takes no memory.
     ///
     /// Nothing is done once an append was unsure. A mark of version 2 with generation 0 may be the first body of an empty file;
-    /// no other mark may be given.
+    /// no other mark may be given. The first body of a file has at most the five bytes of a mark.
     pub fn append<S: Site>(&mut self, site: &mut S, body: &[u8]) -> Append
         requires { IsBody body.now }
         ensures appended { (bodies : List (List ℕ)) → self.old.unsure ≡ false → Keeps self.old bodies (S.told site.old) → MayFollow bodies body.now → Appended result bodies body.now self.new (S.told site.old) (S.told site.new) }

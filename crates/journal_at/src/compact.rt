@@ -56,7 +56,7 @@ impl Journal {
     /// Writes a text into the other file, and opens its first gate.
     fn switch<S: Site>(&mut self, site: &mut S, text: &[u8]) -> Compact
         requires { self.old.generation < 4294967295 }
-        ensures compacted { (bodies texts : List (List ℕ)) → Keeps self.old bodies (S.told site.old) → text.now ≡ text_of (self.old.generation + 1) texts → AreBodies texts → AreUnmarked texts → Compacted result self.old.live bodies (mark_body (self.old.generation + 1) ∷ texts) self.new (S.told site.old) (S.told site.new) }
+        ensures compacted { (bodies texts : List (List ℕ)) → Keeps self.old bodies (S.told site.old) → 1 ≤ self.old.end → text.now ≡ text_of (self.old.generation + 1) texts → AreBodies texts → AreUnmarked texts → Compacted result self.old.live bodies (mark_body (self.old.generation + 1) ∷ texts) self.new (S.told site.old) (S.told site.new) }
         ensures moves { Moves result text.now self.old self.new (S.told site.old) (S.told site.new) }
         ensures ground { HasGround result self.old (S.told site.old) (S.told site.new) }
         ensures full { result ≡ Full → ⊥ }
@@ -86,7 +86,8 @@ impl Journal {
     /// Writes these bodies into the other file, behind a mark of version 2 with the next generation, and makes that file the
     /// live one.
     ///
-    /// Nothing is done once the journal was unsure, nor where the text would pass the limit. Memory is taken before the first
+    /// The live file has a body: nothing is said of what a crash leaves of a compaction from an empty file. Nothing is done
+    /// once the journal was unsure, nor where the text would pass the limit. Memory is taken before the first
     /// call, and where there is none, nothing is done.
     pub fn compact<S: Site>(
         &mut self,
@@ -96,7 +97,7 @@ impl Journal {
     ) -> Result<Compact, AllocError>
         requires bodies { AreBodies (texts_in bodies.now) }
         requires generation { self.old.generation < 4294967295 }
-        ensures compacted { IfOk result (λ r. (kept : List (List ℕ)) → self.old.unsure ≡ false → Keeps self.old kept (S.told site.old) → AreUnmarked (texts_in bodies.now) → Compacted r self.old.live kept (mark_body (self.old.generation + 1) ∷ texts_in bodies.now) self.new (S.told site.old) (S.told site.new)) }
+        ensures compacted { IfOk result (λ r. (kept : List (List ℕ)) → self.old.unsure ≡ false → Keeps self.old kept (S.told site.old) → 1 ≤ self.old.end → AreUnmarked (texts_in bodies.now) → Compacted r self.old.live kept (mark_body (self.old.generation + 1) ∷ texts_in bodies.now) self.new (S.told site.old) (S.told site.new)) }
         ensures moves { IfOk result (λ r. self.old.unsure ≡ false → Moves r (text_of (self.old.generation + 1) (texts_in bodies.now)) self.old self.new (S.told site.old) (S.told site.new)) }
         ensures nothing { self.old.unsure ≡ true → (result ≡ Ok Unsure) × (site.new ≡ site.old) }
         ensures memory { IsErr result → (site.new ≡ site.old) × (self.new ≡ self.old) }

@@ -22,6 +22,8 @@ pub enum LoadFault {
     Disk,
     /// A file stands for no list of bodies; its number, and the place of the gate.
     Bad { file: u8, place: u64 },
+    /// The live file has no body, and a file is longer than those of a new journal can be.
+    NoJournal,
 }
 
 impl From<AllocError> for LoadFault {
@@ -115,7 +117,8 @@ fn survey<S: Site>(alloc: Global, site: &mut S) -> Result<Both, LoadFault>
 
 /// Reads a journal.
 ///
-/// Both files are synced first. Where file 0 is live and has at most one byte, a shut gate is written into it.
+/// Both files are synced first. A pair whose live file has no body, and of which one file has more than 11 bytes, is no journal,
+/// and nothing is written into it. Where file 0 is live and has at most one byte, a shut gate is written into it.
 pub fn load<S: Site>(
     alloc: Global,
     site: &mut S,
@@ -127,6 +130,9 @@ pub fn load<S: Site>(
         Ok(both) => both,
         Err(fault) => return Err(fault),
     };
+    if both.is_foreign() {
+        return Err(LoadFault::NoJournal);
+    }
     let bare = both.is_bare();
     let (journal, records) = match pick(alloc, limit, both) {
         Ok(pair) => pair,

@@ -3,7 +3,7 @@
 ghost use Rattle.std.specs.Prelude.{◌≡◌, ◌≤◌, IfOk, IfErr, vec_capacity};
 ghost use Rattle.journal_at.specs.Format.{mark_of};
 ghost use Rattle.journal_at.specs.Frames.{IsWhy, bodies_of};
-ghost use Rattle.journal_at.specs.Scans.{IsGate, IsHead, IsOpened, IsPicked, IsScan, is_bare, mark_in, second_lives};
+ghost use Rattle.journal_at.specs.Scans.{IsGate, IsHead, IsOpened, IsPicked, IsScan, Judges, is_bare, mark_in, second_lives};
 
 use crate::file_bodies::Bodies;
 use crate::journal::Journal;
@@ -79,13 +79,15 @@ fn is_unshut(bytes: &[u8]) -> bool
     }
 }
 
-/// The bodies of a file, what they say of it, whether its first gate is open or not there, and whether it has at most one byte.
+/// The bodies of a file, what they say of it, whether its first gate is open or not there, whether it has at most one byte, and
+/// whether it has more bytes than the first append of a new journal can have left.
 #[derive(Drop)]
 pub struct Scan {
     pub(crate) bodies: Bodies,
     pub(crate) head: Head,
     pub(crate) unshut: bool,
     pub(crate) bare: bool,
+    pub(crate) large: bool,
 }
 
 /// All that a file says.
@@ -102,6 +104,7 @@ pub fn scan_file(alloc: Global, bytes: &[u8]) -> Result<Scan, BodiesFault>
                 head,
                 unshut,
                 bare: bytes.len() <= 1,
+                large: bytes.len() > 11,
             })
         }
         Err(fault) => Err(fault),
@@ -129,6 +132,22 @@ impl Both {
     {
         self.first.bare && !self.second_lives()
     }
+
+    /// Whether the live file has no body, and a file is longer than those of a new journal.
+    pub(crate) fn is_foreign(&self) -> bool
+        ensures { Judges result self.now }
+    {
+        if self.second_lives() {
+            return false;
+        }
+        if !self.first.bodies.items.is_empty() {
+            return false;
+        }
+        if self.first.large {
+            return true;
+        }
+        self.second.large
+    }
 }
 
 /// A journal whose file says that, and the records of it.
@@ -142,6 +161,7 @@ fn opened(live: u8, limit: u32, room: Vec<u8>, unshut: bool, scan: Scan) -> (Jou
         head,
         unshut: _unshut,
         bare: _bare,
+        large: _large,
     } = scan;
     let Bodies { items, end } = bodies;
     let journal = Journal {

@@ -26,7 +26,7 @@ pub const SINK_FAILED: u8 = 5;
 /// The first file isn't there, or opening or reading one of them failed.
 pub const UNREAD: u8 = 6;
 
-/// The files are no journal; the place was printed.
+/// The files are no journal; so was printed.
 pub const BAD: u8 = 7;
 
 /// Want of memory.

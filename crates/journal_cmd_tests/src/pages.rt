@@ -29,6 +29,13 @@ const PAGES: &[Row] = &[
         0,
         "version 1\ngeneration 0\nincarnation 0\nnothing open\n",
     ),
+    // a mark before its gate is raised
+    (
+        b"\x00\x00\x00\x00\x05\x0b\x00\x00\x00\x00\x00",
+        b"",
+        0,
+        "version 1\ngeneration 0\nincarnation 0\nnothing open\n",
+    ),
     // version 1 without a mark: Start 3, LeafPrepared 3-1 under a
     (
         b"\x01\x00\x00\x00\x05\x01\x00\x00\x00\x03\
@@ -98,6 +105,9 @@ const REFUSALS: &[Row] = &[
         7,
         "bad journal at 0\n",
     ),
+    // a text of more than 11 bytes, as the first file and as the second
+    (b"notes of a day", b"", 7, "no journal\n"),
+    (b"", b"notes of a day", 7, "no journal\n"),
     // the same in the file that isn't live
     (
         b"\x01\x00\x00\x00\x01\x63\x00",

@@ -9,7 +9,7 @@ use Rattle.record_bytes.specs.Versions.{AreApart}
 use Rattle.site_model.specs.Told.{Files}
 use Rattle.journal_page.specs.Contents.{Contents, IsBadAt, IsNoRecord, StandFor}
 use Rattle.journal_page.specs.Pages.{IsPageOf, OneIsPrinted, Printed, whole_page}
-use Rattle.journal_page.proofs.OneStanding.{bodies_one, is_one, judged_none, records_one}
+use Rattle.journal_page.proofs.OneStanding.{bodies_one, foreign_none, is_one, judged_none, records_one}
 
 contents_one : AreApart → (files : Files) (c d : Contents) → StandFor files c → StandFor files d → c ≡ d
 contents_one apart files c d h k =
@@ -37,7 +37,8 @@ bad_none files file place c (inr b) h = no_record files file place c b h
 
 page_one : AreApart → (files : Files) (p : Printed) → IsPageOf files p → (c : Contents) → StandFor files c → p ≡ whole_page c
 page_one apart files p (inl w) c h = w.is ∙ ap whole_page (contents_one apart files w.contents c w.stand h)
-page_one apart files p (inr r) c h = absurd (bad_none files r.file r.place c r.bad h)
+page_one apart files p (inr (inl r)) c h = absurd (bad_none files r.file r.place c r.bad h)
+page_one apart files p (inr (inr n)) c h = absurd (foreign_none files h.live h.bodies n.none h.held)
 
 pub one_is_printed : AreApart → OneIsPrinted
 one_is_printed apart = page_one apart

@@ -8,7 +8,7 @@ use Rattle.decision_log.specs.Folds.{AreRecords}
 use Rattle.journal_at.specs.Format.{AreBodies, AreInPlace, AreUnmarked, FileOf, behind, frames, head_of, mark_of}
 use Rattle.journal_at.specs.Frames.{Begins, Framed, IsBadAt, IsStray, NoFrame}
 use Rattle.journal_at.specs.Loads.{IsJudged}
-use Rattle.journal_at.specs.Pairs.{HasLive}
+use Rattle.journal_at.specs.Pairs.{AreNew, HasLive, IsForeign, IsJournal}
 use Rattle.journal_at.specs.declared.version.Version.{Version}
 use Rattle.journal_at.proofs.Bodies.{framed_of, tail_framed}
 use Rattle.journal_at.proofs.Frames.{not_framed}
@@ -106,3 +106,15 @@ judged_none files zero place zero bodies b h = bad_none place files.first bodies
 judged_none files zero place (suc n) bodies b h = bad_none place files.first h.1.others b h.1.is
 judged_none files (suc m) place zero bodies b h = bad_none place files.second h.1.others b.1 h.1.is
 judged_none files (suc m) place (suc n) bodies b h = bad_none place files.second bodies b.1 h.0
+
+no_older : (xs ys zs : List (List ℕ)) → xs ≡ ys → (head_of zs).generation < (head_of xs).generation → (head_of ys).generation ≤ (head_of []).generation → ⊥
+no_older xs ys zs e less none = omega (arith, less, none, ap (λ z. (head_of z).generation) e)
+
+not_new : (files : Files) → AreNew files → (11 < length files.first) ⊎ (11 < length files.second) → ⊥
+not_new files new (inl long) = let short = new.first in omega (arith, long, short)
+not_new files new (inr long) = let short = new.second in omega (arith, long, short)
+
+-- nor do files that hold nothing of a journal
+pub foreign_none : (files : Files) (live : ℕ) (bodies : List (List ℕ)) → IsForeign files → HasLive live bodies files → ⊥
+foreign_none files zero bodies n (is, beside, ours) = not_new files (subst (λ z. IsJournal z files) (file_one files.first bodies [] is n.is) ours) n.long
+foreign_none files (suc m) bodies n (is, beside, ours) = no_older bodies n.others beside.others (file_one files.second bodies n.others is n.other) beside.newer n.newer

@@ -15,7 +15,7 @@ use Rattle.journal_page.specs.Contents.{IsBadAt}
 use Rattle.journal_page.specs.Readings.{Keeps, Reads}
 use Rattle.journal_page.specs.declared.standing.Standing.{Standing}
 use Rattle.journal_page.specs.declared.standing.Unread.{Unread}
-use Rattle.journal_page.specs.declared.standing.Unread.TheVariants.{NoMemory, Bad}
+use Rattle.journal_page.specs.declared.standing.Unread.TheVariants.{NoMemory, Bad, NoJournal}
 
 nothing_dropped : (n : ℕ) → drop {A = ℕ} n [] ≡ []
 nothing_dropped zero = refl
@@ -51,6 +51,10 @@ is_read f journal records (Err (Bad file place)) old new h o k = subst (λ z. Is
   placed = o.placed;
   bad = k.bad;
 }))
+is_read f journal records (Err NoJournal) old new h o k = absurd k
 
 pub no_list : (f : Files) (file place : ℕ) (old new : Told) → Is old.files f → Fails (loaded.Bad file place) old new → Reads (Err (Bad file place)) f
 no_list f file place old new h k = inl (k.cause f h)
+
+pub no_journal : (f : Files) (old new : Told) → Is old.files f → Fails loaded.NoJournal old new → Reads (Err NoJournal) f
+no_journal f old new h k = k.cause f h

@@ -3,11 +3,12 @@ use Rattle.std.proofs.Common.{ℕ, ◌≡◌, inl, inr, sym, subst, ap, ◌∙�
 use Rattle.decision_log.specs.Folds.{AreRecords}
 use Rattle.decision_log.specs.KeptRecords.{Known, kept_of}
 use Rattle.decision_log.specs.KeptState.{known}
+use Rattle.journal_at.specs.Pairs.{IsForeign}
 use Rattle.journal_at.specs.Scans.{records_in}
 use Rattle.record_bytes.specs.Versions.{AreApart}
 use Rattle.site_model.specs.Told.{Files}
 use Rattle.journal_page.specs.Contents.{IsBadAt}
-use Rattle.journal_page.specs.Pages.{IsPageOf, Printed, bad_page, lines_of}
+use Rattle.journal_page.specs.Pages.{IsPageOf, Printed, bad_page, lines_of, no_journal_page}
 use Rattle.journal_page.specs.Readings.{IsRead}
 use Rattle.journal_page.specs.Wholes.{IsWholeOf}
 use Rattle.journal_page.specs.declared.standing.Standing.{Standing}
@@ -31,4 +32,7 @@ is_whole apart files s p h w =
     })
 
 pub is_refusal : (files : Files) (file place : ℕ) (p : Printed) → IsBadAt file place files → p ≡ bad_page file place → IsPageOf files p
-is_refusal files file place p b e = inr (record { file = file; place = place; bad = b; is = e })
+is_refusal files file place p b e = inr (inl (record { file = file; place = place; bad = b; is = e }))
+
+pub is_none : (files : Files) (p : Printed) → IsForeign files → p ≡ no_journal_page → IsPageOf files p
+is_none files p h e = inr (inr (record { none = h; is = e }))

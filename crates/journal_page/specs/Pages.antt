@@ -2,6 +2,7 @@
 use Rattle.std.specs.Prelude.{ℕ, List, Bool, true, false, ◌++◌, ◌≡◌, ◌⊎◌, zero, suc, codes, decimal}
 use Rattle.at_base.specs.declared.record.Record.{Record}
 use Rattle.decision_log.specs.KeptRecords.{Known, kept_of}
+use Rattle.journal_at.specs.Pairs.{IsForeign}
 use Rattle.journal_at.specs.declared.version.Version.{Version}
 use Rattle.journal_at.specs.declared.version.Version.TheVariants.{One, Two}
 use Rattle.site_model.specs.Told.{Files}
@@ -44,6 +45,13 @@ bad_line (suc n) place = codes "bad journal file 1 at " ++ (decimal place ++ cod
 abbrev pub bad_page : ℕ → ℕ → Printed
 bad_page file place = record { text = bad_line file place; is_bad = true }
 
+-- the live file has no body, and one is longer than those of a new journal
+unfoldable pub no_journal_line : List ℕ
+no_journal_line = codes "no journal\n"
+
+abbrev pub no_journal_page : Printed
+no_journal_page = record { text = no_journal_line; is_bad = true }
+
 pub record IsWhole (files : Files) (p : Printed) : Type 0 where
   pub contents : Contents
   pub stand : StandFor files contents
@@ -55,8 +63,13 @@ pub record IsRefusal (files : Files) (p : Printed) : Type 0 where
   pub bad : IsBadAt file place files
   pub is : p ≡ bad_page file place
 
+-- the files are no journal, and not a bad one
+pub record IsNone (files : Files) (p : Printed) : Type 0 where
+  pub none : IsForeign files
+  pub is : p ≡ no_journal_page
+
 abbrev pub IsPageOf : Files → Printed → Type 0
-IsPageOf files p = IsWhole files p ⊎ IsRefusal files p
+IsPageOf files p = IsWhole files p ⊎ (IsRefusal files p ⊎ IsNone files p)
 
 -- What files stand for has one page, and no other is printed of them.
 abbrev pub OneIsPrinted : Type 0

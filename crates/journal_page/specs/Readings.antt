@@ -3,7 +3,7 @@ use Rattle.std.specs.Prelude.{ℕ, List, Result, Ok, Err, ◌≡◌}
 use Rattle.decision_log.specs.Folds.{IsBadAt as IsBadBody, IsFolded, placed_in}
 use Rattle.decision_log.specs.KeptState.{known}
 use Rattle.journal_at.specs.Format.{head_of, records_of}
-use Rattle.journal_at.specs.Pairs.{HasLive}
+use Rattle.journal_at.specs.Pairs.{HasLive, IsForeign}
 use Rattle.journal_at.specs.Scans.{records_in}
 use Rattle.journal_at.specs.declared.journal.Journal.{Journal}
 use Rattle.journal_at.specs.declared.records.Records.{Records}
@@ -11,7 +11,7 @@ use Rattle.site_model.specs.Told.{Files}
 use Rattle.journal_page.specs.Contents.{IsBadAt}
 use Rattle.journal_page.specs.declared.standing.Standing.{Standing}
 use Rattle.journal_page.specs.declared.standing.Unread.{Unread}
-use Rattle.journal_page.specs.declared.standing.Unread.TheVariants.{NoMemory, Bad}
+use Rattle.journal_page.specs.declared.standing.Unread.TheVariants.{NoMemory, Bad, NoJournal}
 
 -- the live file's generation and records, and what is kept of these
 pub record IsRead (files : Files) (s : Standing) : Type 0 where
@@ -27,6 +27,7 @@ abbrev pub Reads : Result Standing Unread → Files → Type 0
 Reads (Ok s) files = IsRead files s
 Reads (Err NoMemory) files = Unit {0}
 Reads (Err (Bad file place)) files = IsBadAt file place files
+Reads (Err NoJournal) files = IsForeign files
 
 pub record IsKept (journal : Journal) (records : Records) (s : Standing) : Type 0 where
   pub generation : s.generation ≡ journal.generation
@@ -41,3 +42,4 @@ abbrev pub Keeps : Result Standing Unread → Journal → Records → Type 0
 Keeps (Ok s) journal records = IsKept journal records s
 Keeps (Err NoMemory) journal records = Unit {0}
 Keeps (Err (Bad file place)) journal records = IsUnkept journal records file place
+Keeps (Err NoJournal) journal records = ⊥

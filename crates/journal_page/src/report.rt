@@ -3,7 +3,7 @@
 ghost use Rattle.std.specs.Prelude.{◌≡◌, ◌++◌, IfOk, OnOk};
 ghost use Rattle.decision_log.specs.KeptState.{known};
 ghost use Rattle.journal_page.specs.Contents.{Contents, StandFor};
-ghost use Rattle.journal_page.specs.Pages.{IsPageOf, bad_page, head_lines, lines_of, version_number, whole_page};
+ghost use Rattle.journal_page.specs.Pages.{IsPageOf, bad_page, head_lines, lines_of, no_journal_page, version_number, whole_page};
 ghost use Rattle.journal_page.specs.Wholes.{IsWholeOf};
 
 use crate::entries::entries_of;
@@ -100,7 +100,16 @@ fn refused(alloc: Global, file: u8, place: u64) -> Result<Page, AllocError>
     Ok(Page::of(line.into_bytes(), true))
 }
 
-#[tactic(auto, using(crate::proofs::ReadPages::is_whole, crate::proofs::ReadPages::is_refusal))]
+/// What is printed of files that hold nothing of a journal.
+#[tactic(auto, unfolding(crate::specs::Pages::no_journal_line))]
+fn no_journal(alloc: Global) -> Result<Page, AllocError>
+    ensures { IfOk result (λ page. page ≡ no_journal_page) }
+{
+    let line = format!(in alloc; "no journal\n")?;
+    Ok(Page::of(line.into_bytes(), true))
+}
+
+#[tactic(auto, using(crate::proofs::ReadPages::is_whole, crate::proofs::ReadPages::is_refusal, crate::proofs::ReadPages::is_none))]
 fn report(alloc: Global, first: &[u8], second: &[u8]) -> Result<Page, AllocError>
     ensures { IfOk result (IsPageOf (record { first = first.now; second = second.now })) }
 {
@@ -109,11 +118,12 @@ fn report(alloc: Global, first: &[u8], second: &[u8]) -> Result<Page, AllocError
         Ok(read) => whole(alloc, &read),
         Err(Unread::NoMemory) => Err(AllocError),
         Err(Unread::Bad { file, place }) => refused(alloc, file, place),
+        Err(Unread::NoJournal) => no_journal(alloc),
     }
 }
 
 /// What is printed of the two files of a journal: version, generation, last incarnation, each record, and what is open; or
-/// the place where they are none.
+/// the place where they are none, or that they hold nothing of one.
 ///
 /// Each line ends in LF. An error is want of memory.
 pub fn page(alloc: Global, first: &[u8], second: &[u8]) -> Result<Page, AllocError>

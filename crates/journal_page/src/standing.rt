@@ -37,6 +37,8 @@ pub enum Unread {
     NoMemory,
     /// They are none: the file's number, and the place of the gate, in bytes.
     Bad { file: u8, place: u64 },
+    /// They hold nothing of one: the live file has no body, and one is longer than those of a new journal.
+    NoJournal,
 }
 
 /// Writes a file of a machine that has none.
@@ -81,7 +83,7 @@ fn keep(alloc: Global, journal: &Journal, records: Records) -> Result<Standing, 
 /// Reads two files as a journal, as a start reads them.
 ///
 /// They are copied to a machine in memory, and nothing else is touched.
-#[tactic(auto, using(crate::proofs::ReadFiles::is_read, crate::proofs::ReadFiles::no_list))]
+#[tactic(auto, using(crate::proofs::ReadFiles::is_read, crate::proofs::ReadFiles::no_list, crate::proofs::ReadFiles::no_journal))]
 pub(crate) fn read_files(alloc: Global, first: &[u8], second: &[u8]) -> Result<Standing, Unread>
     ensures { Reads result (record { first = first.now; second = second.now }) }
 {
@@ -91,6 +93,7 @@ pub(crate) fn read_files(alloc: Global, first: &[u8], second: &[u8]) -> Result<S
     match load(alloc, &mut site, u32::MAX) {
         Ok((journal, records)) => keep(alloc, &journal, records),
         Err(LoadFault::Bad { file, place }) => Err(Unread::Bad { file, place }),
+        Err(LoadFault::NoJournal) => Err(Unread::NoJournal),
         Err(LoadFault::NoMemory | LoadFault::Disk) => Err(Unread::NoMemory),
     }
 }

@@ -12,7 +12,7 @@ use decision_log::keep::{KeepFault, keep};
 use decision_log::ready::{Leave, Ready, leave_of, matches_token};
 use decision_log::shrink::shrink;
 use decision_log::token::What;
-use journal_at::journal::Compact;
+use journal_at::journal::{Append, Compact};
 use journal_at::load::load;
 use site_memory::arm::Choice;
 use site_memory::machine::MemSite;
@@ -191,6 +191,9 @@ fn lets_leave(alloc: Global) -> bool {
     let Ok((mut journal, _)) = load(alloc, &mut site, 1000) else {
         return false;
     };
+    if journal.append(&mut site, b"\x0b\x00\x00\x00\x00") != Append::Done {
+        return false;
+    }
     let entry = Record::LeafCommitted { id };
     if !is_well_formed(&entry) {
         return false;

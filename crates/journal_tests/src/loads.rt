@@ -8,11 +8,13 @@ use site_model::site::Site;
 use std::alloc::Global;
 use std::test::Fail;
 
-/// What loading says: the letters of the live file, whether it is file 1, and whether it is of version 2; or where it is bad.
+/// What loading says: the letters of the live file, whether it is file 1, and whether it is of version 2; or where it is bad; or
+/// that the files are no journal, and neither was changed.
 #[derive(Clone, Copy, Debug, PartialEq, Eq)]
 pub enum Said {
     Letters(u32, bool, bool),
     Bad(u8, u64),
+    NoJournal,
     Other,
 }
 
@@ -71,7 +73,35 @@ const ROWS: &[(&[u8], &[u8], Said)] = &[
         b"\x01\x00\x00\x00\x05\x09\x00\x00\x00\x00\x00",
         Said::Letters(0x61, false, false),
     ),
+    // a text in either file, where the live one has no body, and beside one that has
+    (TEXT, b"", Said::NoJournal),
+    (b"", TEXT, Said::NoJournal),
+    (TEXT, TEXT, Said::NoJournal),
+    (
+        TEXT,
+        b"\x01\x00\x00\x00\x05\x0b\x00\x00\x00\x01\x01\x00\x00\x00\x01a\x00",
+        Said::Letters(0x61, true, true),
+    ),
+    (
+        b"\x01\x00\x00\x00\x01a\x00",
+        TEXT,
+        Said::Letters(0x61, false, false),
+    ),
+    // as long as a new journal may be, and longer
+    (b"a few words", b"", Said::Letters(0, false, false)),
+    (b"a few words.", b"", Said::NoJournal),
+    (ELEVEN, ELEVEN, Said::Letters(0, false, false)),
+    (TWELVE, b"", Said::NoJournal),
+    (b"", TWELVE, Said::NoJournal),
+    // a body in file 1, which isn't live
+    (b"", b"\x01\x00\x00\x00\x07letters\x00", Said::NoJournal),
 ];
+
+const TEXT: &[u8] = b"Dear diary,\nit rained all day.\n";
+
+const ELEVEN: &[u8] = b"\x00\x00\x00\x00\x00\x00\x00\x00\x00\x00\x00";
+
+const TWELVE: &[u8] = b"\x00\x00\x00\x00\x00\x00\x00\x00\x00\x00\x00\x00";
 
 /// What loading says of these files.
 fn loaded(alloc: Global, first: &[u8], second: &[u8]) -> Said {
@@ -86,6 +116,9 @@ fn loaded(alloc: Global, first: &[u8], second: &[u8]) -> Said {
             records.version() == Version::Two,
         ),
         Err(LoadFault::Bad { file, place }) => Said::Bad(file, place),
+        Err(LoadFault::NoJournal) if site.file(0) == first && site.file(1) == second => {
+            Said::NoJournal
+        }
         Err(_) => Said::Other,
     }
 }
@@ -96,6 +129,30 @@ fn files_stand_for_their_records(rt: HostRuntime) -> Result<(), Fail> {
         let says = loaded(rt.alloc(), first, second);
         assert!(rt; says == *wanted, "files");
     }
+    Ok(())
+}
+
+/// A mark behind a gate that is still shut: all that the first append of a new journal lays.
+const LAID: &[u8] = b"\x00\x00\x00\x00\x05\x0b\x00\x00\x00\x00\x00";
+
+/// Whether so much of it, cut at any byte, is a journal without bodies.
+fn is_new_wherever_cut(alloc: Global) -> bool {
+    let mut bytes = Vec::new(alloc);
+    for byte in LAID {
+        if loaded(alloc, bytes.as_slice(), b"") != Said::Letters(0, false, false) {
+            return false;
+        }
+        if bytes.push(*byte).is_err() {
+            return false;
+        }
+    }
+    loaded(alloc, bytes.as_slice(), b"") == Said::Letters(0, false, false)
+}
+
+#[test]
+fn a_new_journal_that_is_cut_is_new(rt: HostRuntime) -> Result<(), Fail> {
+    let right = is_new_wherever_cut(rt.alloc());
+    assert!(rt; right, "cut");
     Ok(())
 }
 

@@ -232,5 +232,6 @@ failed_starts_leave told_calls links apart law images base (Err ends.Disk) old t
     leaves told_calls links apart law images base old t last k made K told least most adds B
 failed_starts_leave told_calls links apart law images base (Err ends.NoMemory) old t last k made K told least most B begun adds = absurd (true≢false (sym begun))
 failed_starts_leave told_calls links apart law images base (Err (ends.Bad file place)) old t last k made K told least most B begun adds = absurd (true≢false (sym begun))
+failed_starts_leave told_calls links apart law images base (Err ends.NoJournal) old t last k made K told least most B begun adds = absurd (true≢false (sym begun))
 failed_starts_leave told_calls links apart law images base (Err ends.Spent) old t last k made K told least most B begun adds = absurd (true≢false (sym begun))
 failed_starts_leave told_calls links apart law images base (Err ends.Full) old t last k made K told least most B begun adds = absurd (true≢false (sym begun))

@@ -20,7 +20,7 @@ use Rattle.memory_net.proofs.Standing.{same_some}
 use Rattle.node_at.specs.Sizes.{end_of, framed_all, size_of}
 use Rattle.node_at.specs.Starts.{Found, IsCause, IsNoRecord, StandFor, carried, start_after, started}
 use Rattle.node_at.specs.declared.fault.StartFault.{StartFault}
-use Rattle.node_at.specs.declared.fault.StartFault.TheVariants.{Bad, Disk, Full, NoMemory, Spent}
+use Rattle.node_at.specs.declared.fault.StartFault.TheVariants.{Bad, Disk, Full, NoJournal, NoMemory, Spent}
 use Rattle.node_worlds.specs.Crashes.{CrashesAreMet}
 use Rattle.node_worlds.specs.Restarts.{StandsFor}
 use Rattle.node_worlds.proofs.NetWorlds.{same_last}
@@ -39,7 +39,7 @@ use Rattle.mirrored_nets.specs.Mirrors.{IsOfTwo}
 use Rattle.mirrored_nets.specs.Took.{HasRoom}
 use Rattle.mirrored_nets.proofs.LeftStarts.{two_closed}
 use Rattle.mirrored_nets.proofs.OneStanding.{found_one, version_one}
-use Rattle.mirrored_nets.proofs.ReadRecords.{not_judged, not_misspelled, records_read}
+use Rattle.mirrored_nets.proofs.ReadRecords.{not_foreign, not_judged, not_misspelled, records_read}
 
 -- a file is as long as its bodies and their gate at least
 closed_long : (bodies : List (List ℕ)) (f : List ℕ) → Closed bodies f → length (frames bodies) + 1 ≤ length f
@@ -119,6 +119,7 @@ module _ (apart : AreApart) (old : MemSite) (can : CanBegin old) where
   wants Disk t h = tt
   wants (Bad file place) t (inl judged) = not_judged f known.0 known.1.texts file place known.1.is (judged f refl)
   wants (Bad file place) t (inr none) = not_record file place t none
+  wants NoJournal t foreign = not_foreign f known.0 known.1.texts known.1.is (foreign f refl)
   wants Spent t (version, rs, found, spent) = not_spent version rs found spent
   wants Full t (version, rs, found, least, full) = not_full version rs found full
 

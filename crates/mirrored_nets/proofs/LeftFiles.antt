@@ -7,7 +7,7 @@ use Rattle.at_base.specs.declared.record.Record.{Record}
 use Rattle.decision_log.specs.Folds.{AreRecords}
 use Rattle.journal_at.specs.Format.{AreBodies, AreInPlace, AreListed, AreUnmarked, IsBody, Mark, head_of, mark_of, marked, records_of, without}
 use Rattle.journal_at.specs.Pairs.{Holds}
-use Rattle.journal_at.specs.StandingBodies.{MayFollow}
+use Rattle.journal_at.specs.StandingBodies.{MayBegin, MayFollow}
 use Rattle.journal_at.specs.declared.version.Version.TheVariants.{Two}
 use Rattle.node_at.specs.State.{State}
 use Rattle.node_events.specs.NodeEvents.{records_if}
@@ -80,11 +80,16 @@ same_generation : (bodies : List (List ℕ)) (body : List ℕ) → mark_of body 
 same_generation [] body k = ap (λ m. (marked m).generation) k
 same_generation (b ∷ bodies) body k = refl
 
--- a record's body may follow any others
-pub may_follow : (bodies : List (List ℕ)) (body : List ℕ) → AreListed bodies → IsBody body × (mark_of body ≡ None) → MayFollow bodies body
-may_follow bodies body h (k, l) = record {
+begins_none : (bodies : List (List ℕ)) (body : List ℕ) → (head_of bodies).version ≡ Two → MayBegin bodies body
+begins_none [] body e = absurd (search (rules, e))
+begins_none (b ∷ bodies) body e = tt
+
+-- a record's body may follow any others of a file of version 2
+pub may_follow : (bodies : List (List ℕ)) (body : List ℕ) → AreListed bodies → (head_of bodies).version ≡ Two → IsBody body × (mark_of body ≡ None) → MayFollow bodies body
+may_follow bodies body h two (k, l) = record {
   listed = record { sized = sized_push bodies body h.sized k; placed = placed_push bodies body h.placed l };
   generation = same_generation bodies body l;
+  begins = begins_none bodies body two;
 }
 
 -- the machine of a node that is up, before a call of it
@@ -103,6 +108,7 @@ module _ (rs : List Record) (n : State) (s : MemSite) (up : IsUp rs n (told_of s
         is = record { listed = up.holds.keeps.stands.listed; is = inr h.closed };
         other = h.beside.is;
         newer = h.beside.newer;
+        journal = h.journal;
         versions = up.holds.of;
         all = refl;
       };
@@ -113,7 +119,7 @@ module _ (rs : List Record) (n : State) (s : MemSite) (up : IsUp rs n (told_of s
 
   module _ (law : RecordsAreBodies) (r : Record) (formed : IsRecord Two r (bytes_of r)) where
     pub follows : MayFollow up.holds.bodies (bytes_of r)
-    follows = may_follow up.holds.bodies (bytes_of r) up.holds.keeps.stands.listed (law Two r (bytes_of r) formed)
+    follows = may_follow up.holds.bodies (bytes_of r) up.holds.keeps.stands.listed up.holds.of (law Two r (bytes_of r) formed)
 
     -- or that of a record behind them
     stands_behind_them : (c : Files) → Holds n.journal.live (up.holds.bodies ++ bytes_of r ∷ []) c → StandsFor (rs ++ r ∷ []) c
@@ -129,6 +135,7 @@ module _ (rs : List Record) (n : State) (s : MemSite) (up : IsUp rs n (told_of s
           is = record { listed = follows.listed; is = inr h.closed };
           other = h.beside.is;
           newer = h.beside.newer;
+          journal = h.journal;
           versions = head_more up.holds.bodies (bytes_of r ∷ []) up.holds.of;
           all = refl;
         };

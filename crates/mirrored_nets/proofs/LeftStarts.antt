@@ -83,7 +83,7 @@ module _ (apart : AreApart) (images : ChosenAreImages) (old : MemSite) (last : â
     live = file;
     rs = rs;
     bodies = was.bodies;
-    holds = record { closed = two_closed (file_of file f) was.bodies bodies_two has.0; beside = has.1 };
+    holds = record { closed = two_closed (file_of file f) was.bodies bodies_two has.0; beside = has.1; journal = has.2 };
     two = bodies_two;
     listed = has.0.listed;
     are = subst (Î» v. AreRecords v rs (records_of was.bodies)) two was.are;

@@ -1,13 +1,13 @@
 -- Files that stand for records are read, but for want of memory.
-use Rattle.std.specs.Prelude.{ℕ, List, [], ◌∷◌, ◌++◌, ◌≡◌, ◌≢◌, ◌⊎◌, None, suc, zero}
-use Rattle.std.proofs.Common.{refl, sym, ap, subst, ◌∙◌, inl, inr}
+use Rattle.std.specs.Prelude.{ℕ, List, [], ◌∷◌, ◌++◌, ◌≡◌, ◌≢◌, ◌≤◌, ◌<◌, ◌⊎◌, None, length, suc, zero}
+use Rattle.std.proofs.Common.{refl, sym, ap, subst, arith, ◌∙◌, inl, inr}
 use Rattle.std.proofs.lemmas.List.{append_assoc, drop-map}
 use Rattle.at_base.specs.declared.record.Record.{Record}
 use Rattle.decision_log.specs.Folds.{AreRecords, IsBadAt as IsBadRecord, placed_in}
 use Rattle.journal_at.specs.Format.{AreBodies, AreInPlace, AreUnmarked, FileOf, behind, frames, head_of, mark_of}
 use Rattle.journal_at.specs.Frames.{Begins, Framed, IsBadAt, IsStray, NoFrame, bodies_of, body_of}
 use Rattle.journal_at.specs.Loads.{IsJudged}
-use Rattle.journal_at.specs.Pairs.{FilesOf}
+use Rattle.journal_at.specs.Pairs.{AreNew, FilesOf, IsForeign, IsJournal, IsLive}
 use Rattle.journal_at.specs.Scans.{records_in}
 use Rattle.journal_at.specs.declared.read.Placed.{Placed}
 use Rattle.journal_at.specs.declared.records.Records.{Records}
@@ -17,7 +17,7 @@ use Rattle.journal_at.proofs.Frames.{not_framed}
 use Rattle.node_at.specs.Starts.{StandFor}
 use Rattle.record_bytes.specs.Versions.{IsRecord}
 use Rattle.site_model.specs.Told.{Files, file_of, other_than}
-use Rattle.mirrored_nets.proofs.OneStanding.{bodies_one, texts_one}
+use Rattle.mirrored_nets.proofs.OneStanding.{bodies_one, file_one, texts_one}
 
 -- what stands behind the first of its bodies
 framed_behind : (front : List (List ℕ)) (rest : List ℕ) (bodies : List (List ℕ)) → AreBodies front → Framed bodies (frames front ++ rest) → (more : List (List ℕ)) × (bodies ≡ front ++ more) × Framed more rest
@@ -58,6 +58,21 @@ both_files f (suc n) bodies others h k = ((others, k), (bodies, h))
 pub not_judged : (f : Files) (version : Version) (texts : List (List ℕ)) (file place : ℕ) → FilesOf f version texts → IsJudged file place f → ⊥
 not_judged f version texts zero place h bad = let (first, second) = both_files f h.live h.bodies h.others h.is h.other in not_bad f.first first.0 place first.1 bad
 not_judged f version texts (suc n) place h bad = let (first, second) = both_files f h.live h.bodies h.others h.is h.other in not_bad f.second second.0 place second.1 bad.1
+
+no_older : (xs ys zs : List (List ℕ)) → xs ≡ ys → (head_of zs).generation < (head_of xs).generation → (head_of ys).generation ≤ (head_of []).generation → ⊥
+no_older xs ys zs e less none = omega (arith, less, none, ap (λ z. (head_of z).generation) e)
+
+not_new : (f : Files) → AreNew f → (11 < length f.first) ⊎ (11 < length f.second) → ⊥
+not_new f new (inl long) = let short = new.first in omega (arith, long, short)
+not_new f new (inr long) = let short = new.second in omega (arith, long, short)
+
+-- and it is a journal
+pub not_foreign : (f : Files) (version : Version) (texts : List (List ℕ)) → FilesOf f version texts → IsForeign f → ⊥
+not_foreign f version texts h k = by h.live h.is h.other h.newer
+  where
+    by : (live : ℕ) → FileOf (file_of live f) h.bodies → FileOf (other_than live f) h.others → IsLive live h.bodies h.others → ⊥
+    by zero is other newer = not_new f (subst (λ z. IsJournal z f) (file_one f.first h.bodies [] is k.is) h.journal) k.long
+    by (suc n) is other newer = no_older h.bodies k.others h.others (file_one f.second h.bodies k.others is k.other) newer k.newer
 
 -- what was read are those records
 pub records_read : (c : Files) (v w : Version) (rs : List Record) (xs : List (List ℕ)) → StandFor v rs c → FilesOf c w xs → AreRecords w rs xs

@@ -25,5 +25,6 @@ may_be_struck armed (Ok n) h = tt
 may_be_struck armed (Err starts.NoMemory) h = absurd cc
 may_be_struck armed (Err starts.Disk) h = tt
 may_be_struck armed (Err (starts.Bad file place)) h = absurd cc
+may_be_struck armed (Err starts.NoJournal) h = absurd cc
 may_be_struck armed (Err starts.Spent) h = absurd cc
 may_be_struck armed (Err starts.Full) h = absurd cc

@@ -1,6 +1,6 @@
 -- What stands in a machine's files of version 2 behind some of the calls of a start.
 use Rattle.std.specs.Prelude.{ℕ, List, [], ◌∷◌, ◌++◌, ◌+◌, ◌-◌, ◌≡◌, ◌≤◌, ◌<◌, ◌⊎◌, ◌&&◌, Bool, true, false, if◌then◌else◌, length, map, nat_le, nat_lt, suc, take, zero}
-use Rattle.std.proofs.Common.{refl, sym, ap, subst, arith, ◌∙◌, inl, inr}
+use Rattle.std.proofs.Common.{refl, sym, ap, subst, arith, rules, ◌∙◌, inl, inr}
 use Rattle.std.proofs.lemmas.Bool.{cases_lt, le-leb, le-ltb, lt-ltb}
 use Rattle.std.proofs.lemmas.List.{append_assoc, append-nil, take_all}
 use Rattle.at_base.specs.declared.record.Record.{Record}
@@ -94,6 +94,12 @@ part_of live end body (suc (suc (suc zero))) most = refl
 part_of live end body (suc (suc (suc (suc zero)))) most = refl
 part_of live end body (suc (suc (suc (suc (suc m))))) most = absurd (omega (arith, most))
 
+-- a list whose head is a mark has one
+marked_some : (b : Bool) (bodies : List (List ℕ)) (body : List ℕ) → (head_of bodies).version ≡ Two → with_body b bodies body ≡ [] → ⊥
+marked_some b [] body two none = absurd (search (rules, two))
+marked_some true (x ∷ bodies) body two none = cc
+marked_some false (x ∷ bodies) body two none = cc
+
 -- with the Start, or without
 abbrev with_start : Bool → List Record → List Record
 with_start true rs = rs ++ start_after rs ∷ []
@@ -145,7 +151,7 @@ module _ (images : ChosenAreImages) (last : ℕ) (old : MemSite) (K : IsMarked l
     row_made = map done (append_calls G.live e body)
 
     follows : MayFollow G.bodies body
-    follows = may_follow G.bodies body G.listed (law Two (start_after G.rs) body G.formed)
+    follows = may_follow G.bodies body G.listed G.two (law Two (start_after G.rs) body G.formed)
 
     end_at : e ≡ length (frames G.bodies)
     end_at = sym (end_is G.bodies G.rs G.two G.are)
@@ -169,6 +175,7 @@ module _ (images : ChosenAreImages) (last : ℕ) (old : MemSite) (K : IsMarked l
     held m choice most =
         holds_then G.live G.bodies (with_body (stands_behind m choice) G.bodies body) choice o synced_log (row e body G.live m true) _ (subst (Holds G.live G.bodies) (sym (synced_files choice)) G.holds)
         (goes e body G.live m true (disk (which_of G.live) o synced_log)) (stays e body G.live m true (disk (beside_of G.live) o synced_log)) (same_generation (stands_behind m choice) G.bodies body follows)
+        (λ none. absurd (marked_some (stands_behind m choice) G.bodies body G.two none))
         (stopped_live e body G.bodies end_at (disk (which_of G.live) o synced_log) all_closed m choice most)
 
     standing : (b : Bool) (c : Files) → Holds G.live (with_body b G.bodies body) c → StandFor Two (with_start b G.rs) c
@@ -181,6 +188,7 @@ module _ (images : ChosenAreImages) (last : ℕ) (old : MemSite) (K : IsMarked l
         is = record { listed = follows.listed; is = inr h.closed };
         other = h.beside.is;
         newer = h.beside.newer;
+        journal = h.journal;
         versions = head_more G.bodies (body ∷ []) G.two;
         all = refl;
       };
@@ -188,7 +196,17 @@ module _ (images : ChosenAreImages) (last : ℕ) (old : MemSite) (K : IsMarked l
     }
     standing false c h = record {
       texts = records_of G.bodies;
-      is = record { live = G.live; bodies = G.bodies; others = h.beside.others; is = record { listed = G.listed; is = inr h.closed }; other = h.beside.is; newer = h.beside.newer; versions = G.two; all = refl };
+      is = record {
+        live = G.live;
+        bodies = G.bodies;
+        others = h.beside.others;
+        is = record { listed = G.listed; is = inr h.closed };
+        other = h.beside.is;
+        newer = h.beside.newer;
+        journal = h.journal;
+        versions = G.two;
+        all = refl;
+      };
       are = G.are;
     }
 

@@ -28,7 +28,7 @@ pub record CanBegin (s : MemSite) : Type 0 where
   pub least : last_incarnation records < 4294967295
   pub room : HasRoom s
 
--- There was no memory, or the disk failed: the journal isn't bad or full, and its incarnations aren't spent.
+-- There was no memory, or the disk failed: there is a journal, it isn't bad or full, and its incarnations aren't spent.
 abbrev pub IsWant : StartFault → Type 0
 IsWant NoMemory = Unit {0}
 IsWant Disk = Unit {0}

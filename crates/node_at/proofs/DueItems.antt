@@ -1,5 +1,5 @@
 -- Asking the items that are due, one after the other.
-use Rattle.std.proofs.Common.{ℕ, List, [], ◌∷◌, ◌++◌, ◌≡◌, inl, Bool, true, false, Option, Some, None, refl, sym, ◌∙◌, ap, subst}
+use Rattle.std.proofs.Common.{ℕ, List, [], ◌∷◌, ◌++◌, ◌≡◌, ◌≤◌, inl, Bool, true, false, Option, Some, None, refl, sym, ◌∙◌, ap, subst, arith}
 use Rattle.std.proofs.lemmas.List.{append_assoc}
 use Rattle.at_base.specs.declared.event.Event.{Event}
 use Rattle.at_base.specs.declared.event.Event.TheVariants as events
@@ -32,20 +32,22 @@ kept_after true None k on h formed = h
 kept_after false None k on h formed = h
 
 pub node_after : (result : Stepped) (n m : State) (e : Event) (now : ℕ) (old new : Told) → KeepsOn → PromisesStay → RecordsAreWellFormed → IsSoundEvent e → IsNode n → Steps result n m e now old new
-    → IsSound m.book → IsNode m
-node_after (stepped.Done status) n m e now old new on stay formed event h w sound = record {
+    → IsSound m.book → n.journal.end ≤ m.journal.end → IsNode m
+node_after (stepped.Done status) n m e now old new on stay formed event h w sound later = record {
   sound = sound;
   kept = subst IsKept (sym w.went.kept) (kept_after w.landed (plan n.book e now).entry n.kept on h.kept (λ r is. formed.entry n.book e now r h.sound event is));
   promises = subst (λ z. PromisesStand z m.kept) (sym w.went.book)
       (subst (PromisesStand (step n.book e now w.landed).book) (sym w.went.kept) (stay.steps n.book n.kept e now w.landed h.promises));
   sure = w.went.sure ∙ sym w.went.runs;
+  begun = omega (arith, h.begun, later);
 }
-node_after stepped.NoRoom n m e now old new on stay formed event h w sound = subst IsNode (sym w) h
-node_after stepped.Halted n m e now old new on stay formed event h w sound = record {
+node_after stepped.NoRoom n m e now old new on stay formed event h w sound later = subst IsNode (sym w) h
+node_after stepped.Halted n m e now old new on stay formed event h w sound later = record {
   sound = sound;
   kept = subst IsKept (sym (ap (λ (z : State). z.kept) w.stopped.same)) h.kept;
   promises = subst (λ (z : State). PromisesStand z.book z.kept) (sym w.stopped.same) h.promises;
   sure = w.stopped.unsure ∙ sym (ap (λ (z : State). z.halted) w.stopped.same);
+  begun = omega (arith, h.begun, later);
 }
 
 -- one step of an item that is due

@@ -1,5 +1,5 @@
 -- How a step with a record ends.
-use Rattle.std.proofs.Common.{ℕ, List, ◌++◌, ◌≡◌, inl, inr, true, false, Some, None, Result, sym, ◌∙◌, ap, subst}
+use Rattle.std.proofs.Common.{ℕ, List, ◌++◌, ◌≡◌, ◌≤◌, inl, inr, true, false, Some, None, Result, sym, ◌∙◌, ap, subst}
 use Rattle.at_base.specs.declared.record.Record.{Record}
 use Rattle.decision_log.specs.declared.keep.KeepFault.{KeepFault}
 use Rattle.decision_log.specs.KeptRecords.{after}
@@ -34,7 +34,7 @@ moved p n j = record n { journal = j; book = done p true n.book; effects = n.eff
 abbrev pub unmoved : Plan → State → Journal → State
 unmoved p n j = record n { journal = j; book = done p false n.book; effects = n.effects ++ (sent p false).effects }
 
-module _ (r : Record) (p : Plan) (landed absent : List Leaving) (n m : State) (j : Journal) (old mid new : Told) (sure : n.journal.unsure ≡ false) (runs : n.halted ≡ false) where
+module _ (r : Record) (p : Plan) (landed absent : List Leaving) (n m : State) (j : Journal) (old mid new : Told) (sure : n.journal.unsure ≡ false) (least : 1 ≤ n.journal.end) (runs : n.halted ≡ false) where
   pub landed_exit : (s : State) (t : Token) → IsAppended appends.Done r (bytes_of r) n.journal j old mid → Counted old mid → t ≡ token_of r
       → Sends (given (Some t) n.kept) n.kept.done landed mid new → s ≡ moved p n j → m ≡ record s { kept = after r s.kept }
       → (status : ℕ) → status ≡ status_in (sent p true).outs → Acts (ends.Done status) p r landed absent n m old new
@@ -42,7 +42,7 @@ module _ (r : Record) (p : Plan) (landed absent : List Leaving) (n m : State) (j
       inl (
         went_landed r n m (done p true n.book) (sent p true).effects landed old mid new
             (subst (λ z. IsAppended appends.Done r (bytes_of r) n.journal z old mid) (sym (ap (λ (z : State). z.journal) f ∙ ap (λ (z : State). z.journal) e)) h) c
-            (subst (λ z. Sends (given (Some z) n.kept) n.kept.done landed mid new) te k) sure
+            (subst (λ z. Sends (given (Some z) n.kept) n.kept.done landed mid new) te k) sure least
             (ap (λ (z : State). z.halted) f ∙ ap (λ (z : State). z.halted) e ∙ runs)
             (ap (λ (z : State). z.book) f ∙ ap (λ (z : State). z.book) e)
             (ap (λ (z : State). z.effects) f ∙ ap (λ (z : State). z.effects) e)
@@ -55,7 +55,7 @@ module _ (r : Record) (p : Plan) (landed absent : List Leaving) (n m : State) (j
       → (status : ℕ) → status ≡ status_in (sent p false).outs → Acts (ends.Done status) p r landed absent n m old new
   refused_exit h c k e status answers =
       inr (
-        went_refused r n m (done p false n.book) (sent p false).effects absent old mid new c k sure
+        went_refused r n m (done p false n.book) (sent p false).effects absent old mid new c k sure least
             (ap (λ (z : State). z.halted) e ∙ runs) (ap (λ (z : State). z.book) e) (ap (λ (z : State). z.effects) e) (ap (λ (z : State). z.kept) e)
             (subst (λ z. IsAppended appends.Refused r (bytes_of r) n.journal z old mid) (sym (ap (λ (z : State). z.journal) e)) h),
         answers,
@@ -66,7 +66,7 @@ module _ (r : Record) (p : Plan) (landed absent : List Leaving) (n m : State) (j
       → (status : ℕ) → status ≡ status_in (sent p false).outs → Acts (ends.Done status) p r landed absent n m old new
   full_exit h c k e status answers =
       inr (
-        went_full r n m (done p false n.book) (sent p false).effects absent old mid new c k sure
+        went_full r n m (done p false n.book) (sent p false).effects absent old mid new c k sure least
             (ap (λ (z : State). z.halted) e ∙ runs) (ap (λ (z : State). z.book) e) (ap (λ (z : State). z.effects) e) (ap (λ (z : State). z.kept) e)
             (subst (λ z. IsAppended appends.Full r (bytes_of r) n.journal z old mid) (sym (ap (λ (z : State). z.journal) e)) h),
         answers,
@@ -75,5 +75,5 @@ module _ (r : Record) (p : Plan) (landed absent : List Leaving) (n m : State) (j
   pub unsure_exit : IsAppended appends.Unsure r (bytes_of r) n.journal j old mid → m ≡ record n { journal = j; halted = true } → Acts ends.Halted p r landed absent n m old mid
   unsure_exit h e =
       stopped r n m landed old mid
-      (subst (λ z. IsAppended appends.Unsure r (bytes_of r) n.journal z old mid) (sym (ap (λ (z : State). z.journal) e)) h) sure
+      (subst (λ z. IsAppended appends.Unsure r (bytes_of r) n.journal z old mid) (sym (ap (λ (z : State). z.journal) e)) h) sure least
       (e ∙ (λ i. record n { journal = sym (ap (λ (z : State). z.journal) e) i; halted = true }))

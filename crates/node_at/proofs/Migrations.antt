@@ -103,7 +103,7 @@ mark_carries rs a j k old new e o fits h calls reason full unsure counted =
     let keeps : Keeps j [] old = subst (λ z. Keeps j z old) none o.keeps in
     let no_records : rs ≡ [] = are_none One rs (subst (λ z. AreRecords One rs (records_of z)) none o.are) in
     let listed : AreListed (first_mark ∷ []) = record { sized = (record { least = omega arith; most = omega arith }, tt); placed = tt } in
-    let one : Appended a [] first_mark k old new = h [] o.sure keeps (record { listed = listed; generation = refl }) in
+    let one : Appended a [] first_mark k old new = h [] o.sure keeps (record { listed = listed; generation = refl; begins = omega arith }) in
     let not_full : a ≡ appends.Full → ⊥ = λ f. let g = (full.0 f).1 in omega (arith, g, fits, e) in
     subst (λ z. Carries (append_calls j.live j.end first_mark) One z (carried One z) (append_ended a) k old new) (sym no_records)
     (record {
@@ -112,13 +112,13 @@ mark_carries rs a j k old new e o fits h calls reason full unsure counted =
     })
 
 -- records that are written anew
-pub migrate_carries : (rs : List Record) (r : Compact) (j k : Journal) (old new : Told) → RecordsAreBodies → IsOpen One rs j old → size_of (carried One rs) ≤ j.limit
+pub migrate_carries : (rs : List Record) (r : Compact) (j k : Journal) (old new : Told) → RecordsAreBodies → IsOpen One rs j old → 1 ≤ j.end → size_of (carried One rs) ≤ j.limit
     → AreRecords Two (carried One rs) (texts_of (carried One rs)) → IsCompacted r (texts_of (carried One rs)) j k old new → Counted old new
     → Carries (anew_calls j (carried One rs)) One rs (carried One rs) (compact_ended r) k old new
-migrate_carries rs r j k old new law o fits are h counted =
+migrate_carries rs r j k old new law o least fits are h counted =
     let texts = texts_of (carried One rs) in
     let listed = new_listed (j.generation + 1) (carried One rs) texts law are in
-    let done = h.compacted o.bodies o.sure o.keeps in
+    let done = h.compacted o.bodies o.sure o.keeps least in
     let not_full : r ≡ compacts.Full → ⊥ = λ f.
     let g = (h.full.0 f).1 in
     let n = frames_long (carried One rs) in
@@ -156,7 +156,8 @@ start_carries rs n a j k old new o fits h counted =
     let of_more : (head_of (o.bodies ++ b ∷ [])).version ≡ Two = ap (λ z. (head_of (z ++ b ∷ [])).version) m.is ∙ sym (ap (λ z. (head_of z).version) m.is) ∙ o.of in
     let split : records_of (o.bodies ++ b ∷ []) ≡ records_of o.bodies ++ b ∷ [] = ap (λ z. records_of (z ++ b ∷ [])) m.is ∙ records_more m.first m.rest m.mark b m.marks ∙ sym (ap (λ z. records_of z ++ b ∷ []) m.is) in
     let are : AreRecords Two (rs ++ records.Start n ∷ []) (records_of (o.bodies ++ b ∷ [])) = subst (AreRecords Two (rs ++ records.Start n ∷ [])) (sym split) (are_more Two rs (records_of o.bodies) (records.Start n) b o.are h.is) in
-    let one = h.appended o.bodies o.sure o.keeps in
+    let least : 1 ≤ j.end = omega (arith, o.keeps.end, ap (λ z. length (frames z)) m.is) in
+    let one = h.appended o.bodies o.sure o.keeps least in
     let place = open_end rs j old o in
     let not_full : a ≡ appends.Full → ⊥ = λ f. let g = (h.full.0 f).1 in omega (arith, g, fits, place, five) in
     record {

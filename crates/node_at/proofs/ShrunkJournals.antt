@@ -1,5 +1,6 @@
 -- A journal that is written anew.
-use Rattle.std.proofs.Common.{List, Bool, true, false, true≢false, rules, ◌∷◌, ◌++◌, ◌+◌, ◌≡◌, inl, inr, ⊎_elim, refl, sym, ◌∙◌, ap, subst, arith}
+use Rattle.std.proofs.Common.{ℕ, List, Bool, true, false, true≢false, rules, [], ◌∷◌, ◌++◌, ◌+◌, ◌≡◌, ◌≤◌, inl, inr, ⊎_elim, refl, sym, ◌∙◌, ap, subst, arith}
+use Rattle.std.proofs.lemmas.List.{length-append}
 use Rattle.at_base.specs.declared.record.Record.{Record}
 use Rattle.decision_log.specs.Folds.{AreRecords}
 use Rattle.decision_log.specs.KeptRecords.{Known, kept_of}
@@ -8,7 +9,7 @@ use Rattle.journal_at.specs.declared.journal.Compact.{Compact}
 use Rattle.journal_at.specs.declared.journal.Compact.TheVariants as compacts
 use Rattle.journal_at.specs.declared.journal.Journal.{Journal}
 use Rattle.journal_at.specs.declared.version.Version.TheVariants.{Two}
-use Rattle.journal_at.specs.Format.{AreListed, mark_body}
+use Rattle.journal_at.specs.Format.{AreListed, behind, frames, mark_body}
 use Rattle.journal_at.specs.StandingBodies.{Counted, Keeps}
 use Rattle.record_bytes.specs.Versions.{AreBodies as RecordsAreBodies}
 use Rattle.site_model.specs.Told.{Told, Files}
@@ -63,7 +64,7 @@ IsUnsure other = ⊥
 
 -- the records before or those that are left of them
 module _ (rs : List Record) (n m : State) (j : Journal) (old new : Told) (law : RecordsAreBodies) (same : ShrinksTheSame) (o : IsOpen Two rs n.journal old)
-    (kept : n.kept ≡ kept_of Two rs) (are : AreRecords Two (shrunk n.kept) (texts_of (shrunk n.kept))) (counted : Counted old new) where
+    (kept : n.kept ≡ kept_of Two rs) (are : AreRecords Two (shrunk n.kept) (texts_of (shrunk n.kept))) (counted : Counted old new) (least : 1 ≤ n.journal.end) where
   more_same : AreSame (shrunk n.kept) rs
   more_same z = ap (λ (k : Known). kept_of Two (shrunk k ++ z)) kept ∙ same.followed rs z
 
@@ -78,7 +79,7 @@ module _ (rs : List Record) (n m : State) (j : Journal) (old new : Told) (law : 
 
   pub stays_by : (r : Compact) → IsCompacted r (texts_of (shrunk n.kept)) n.journal j old new → m ≡ record n { journal = j; halted = halted_by r n.halted } → Stays rs m old new
   stays_by compacts.Done h e =
-      let done = h.compacted o.bodies o.sure o.keeps in
+      let done = h.compacted o.bodies o.sure o.keeps least in
       let goes = compact_goes Two rs (shrunk n.kept) o.bodies (texts_of (shrunk n.kept)) n.journal j old new o.keeps o.of o.are listed are o.sure counted compacts.Done (λ f. search (rules, f)) done (h.moves o.sure) h.ground in
       record {
         images = λ c now. either_same c (goes.images c now);
@@ -91,7 +92,7 @@ module _ (rs : List Record) (n m : State) (j : Journal) (old new : Told) (law : 
         );
       }
   stays_by compacts.Kept h e =
-      let done = h.compacted o.bodies o.sure o.keeps in
+      let done = h.compacted o.bodies o.sure o.keeps least in
       let goes = compact_goes Two rs (shrunk n.kept) o.bodies (texts_of (shrunk n.kept)) n.journal j old new o.keeps o.of o.are listed are o.sure counted compacts.Kept (λ f. search (rules, f)) done (h.moves o.sure) h.ground in
       record {
         images = λ c now. either_same c (goes.images c now);
@@ -99,7 +100,7 @@ module _ (rs : List Record) (n m : State) (j : Journal) (old new : Told) (law : 
         holds = λ runs. (rs, still_open done.leaves (stays_sure j.unsure (λ f. subst IsUnsure (sym (h.unsure.0 f)) tt)) (ap (λ (z : State). z.journal) e), λ more. refl);
       }
   stays_by compacts.Unsure h e =
-      let done = h.compacted o.bodies o.sure o.keeps in
+      let done = h.compacted o.bodies o.sure o.keeps least in
       let goes = compact_goes Two rs (shrunk n.kept) o.bodies (texts_of (shrunk n.kept)) n.journal j old new o.keeps o.of o.are listed are o.sure counted compacts.Unsure (λ f. search (rules, f)) done (h.moves o.sure) h.ground in
       record {
         images = λ c now. either_same c (goes.images c now);
@@ -107,7 +108,7 @@ module _ (rs : List Record) (n m : State) (j : Journal) (old new : Told) (law : 
         holds = λ runs. absurd (true≢false (sym (ap (λ (z : State). z.halted) e) ∙ runs));
       }
   stays_by compacts.Full h e =
-      let done = h.compacted o.bodies o.sure o.keeps in
+      let done = h.compacted o.bodies o.sure o.keeps least in
       record {
         images = λ c now. (rs, holds_stand Two rs o.bodies j.live c o.keeps.stands.listed o.of o.are (done.leaves.stands.images c now), λ more. refl);
         time = weaker old new _ _ done.time (λ l c p. (p.0, (rs, holds_stand Two rs o.bodies n.journal.live c o.keeps.stands.listed o.of o.are p.1, λ more. refl)));
@@ -123,12 +124,25 @@ sure_at n h runs = h.sure ∙ runs
 
 pub node_by : (r : Compact) (n m : State) (j : Journal) (old new : Told) → IsNode n → n.halted ≡ false → IsCompacted r (texts_of (shrunk n.kept)) n.journal j old new
     → m ≡ record n { journal = j; halted = halted_by r n.halted } → IsNode m
-node_by r n m j old new h runs c e = subst IsNode (sym e) (record { sound = h.sound; kept = h.kept; promises = h.promises; sure = sure r c }) where
+node_by r n m j old new h runs c e = subst IsNode (sym e) (record { sound = h.sound; kept = h.kept; promises = h.promises; sure = sure r c; begun = begun r c }) where
   sure : (r : Compact) → IsCompacted r (texts_of (shrunk n.kept)) n.journal j old new → j.unsure ≡ halted_by r n.halted
   sure compacts.Done c = stays_sure j.unsure (λ f. subst IsUnsure (sym (c.unsure.0 f)) tt) ∙ sym runs
   sure compacts.Kept c = stays_sure j.unsure (λ f. subst IsUnsure (sym (c.unsure.0 f)) tt) ∙ sym runs
   sure compacts.Full c = stays_sure j.unsure (λ f. subst IsUnsure (sym (c.unsure.0 f)) tt) ∙ sym runs
   sure compacts.Unsure c = c.unsure.1 refl
 
+  texts : List (List ℕ)
+  texts = texts_of (shrunk n.kept)
+
+  begun : (r : Compact) → IsCompacted r texts n.journal j old new → 1 ≤ j.end
+  begun compacts.Done c =
+      let e = (c.moves (sure_at n h runs)).end in
+      let behind_mark = length-append (behind (mark_body (n.journal.generation + 1))) (frames texts ++ (0 ∷ [])) in
+      let gate = length-append (frames texts) (0 ∷ []) in
+      omega (arith, e, behind_mark, gate)
+  begun compacts.Kept c = let e = (c.moves (sure_at n h runs)).end in omega (arith, e, h.begun)
+  begun compacts.Unsure c = let e = (c.moves (sure_at n h runs)).end in omega (arith, e, h.begun)
+  begun compacts.Full c = let e = (c.moves (sure_at n h runs)).end in omega (arith, e, h.begun)
+
 pub node_memory : (n : State) (j : Journal) → j ≡ n.journal → IsNode n → IsNode (record n { journal = j })
-node_memory n j e h = record { sound = h.sound; kept = h.kept; promises = h.promises; sure = ap (λ (z : Journal). z.unsure) e ∙ h.sure }
+node_memory n j e h = record { sound = h.sound; kept = h.kept; promises = h.promises; sure = ap (λ (z : Journal). z.unsure) e ∙ h.sure; begun = omega (arith, ap (λ (z : Journal). z.end) e, h.begun) }

@@ -18,7 +18,7 @@ use Rattle.site_model.specs.Counts.{Rose}
 use Rattle.site_model.specs.Site.{Counts as Numbers}
 use Rattle.site_model.specs.Told.{Told, Files, Made, Call, BreaksOff, done}
 use Rattle.node_at.specs.declared.fault.StartFault.{StartFault}
-use Rattle.node_at.specs.declared.fault.StartFault.TheVariants.{NoMemory, Disk, Bad, Spent, Full}
+use Rattle.node_at.specs.declared.fault.StartFault.TheVariants.{NoMemory, Disk, Bad, NoJournal, Spent, Full}
 use Rattle.node_at.specs.Starts.{Either, Goes, IsDue, IsOpen, Ran, StandFor, append_calls, append_ended, compact_ended}
 use Rattle.node_at.proofs.CallRows.{after_that, grown_then, through}
 use Rattle.node_at.proofs.IdFacts.{and_then, weaker}
@@ -35,6 +35,7 @@ holds_stand version rs bodies live c listed e are h = record {
     is = record { listed = listed; is = inr h.closed };
     other = h.beside.is;
     newer = h.beside.newer;
+    journal = h.journal;
     versions = e;
     all = refl;
   };
@@ -75,6 +76,7 @@ ran_then first calls made more (Err Disk) e r = subst (λ z. BreaksOff (first ++
 ran_then first calls made more (Err NoMemory) e (front, rest, split, is) =
     (first ++ front, rest, ap (λ z. first ++ z) split ∙ sym (append_assoc first front rest), (λ i. e i ++ is i) ∙ sym (map-append done first front))
 ran_then first calls made more (Err (Bad file place)) e r = absurd r
+ran_then first calls made more (Err NoJournal) e r = absurd r
 ran_then first calls made more (Err Spent) e r = absurd r
 ran_then first calls made more (Err Full) e r = absurd r
 
@@ -82,6 +84,7 @@ pub due_then : {T : Type 0} (result : Result T StartFault) (old mid new : Told) 
 due_then (Ok x) old mid new h d = tt
 due_then (Err NoMemory) old mid new h d = tt
 due_then (Err (Bad file place)) old mid new h d = tt
+due_then (Err NoJournal) old mid new h d = tt
 due_then (Err Spent) old mid new h d = tt
 due_then (Err Full) old mid new h d = tt
 due_then (Err Disk) old mid new h d =
@@ -125,6 +128,7 @@ goes_no_further first calls P R e old new h p = record {
   on Disk r = breaks_in_front first calls h.made r
   on NoMemory (front, rest, split, is) = (front, rest ++ calls, ap (λ z. z ++ calls) split ∙ append_assoc front rest calls, is)
   on (Bad file place) r = absurd r
+  on NoJournal r = absurd r
   on Spent r = absurd r
   on Full r = absurd r
 

@@ -194,6 +194,7 @@ gathered (Err faults.NoMemory) j fs limit old new g h = gathers_nothing faults.N
 gathered (Err (faults.Bad file place)) j fs limit old new g h =
     gathers_nothing (faults.Bad file place) j fs limit old new (inr (unread file place j fs limit old new g h)) h (λ bare. inr (bare, refl))
 gathered (Err faults.Disk) j fs limit old new g h = absurd g
+gathered (Err faults.NoJournal) j fs limit old new g h = absurd g
 gathered (Err faults.Spent) j fs limit old new g h = absurd g
 gathered (Err faults.Full) j fs limit old new g h = absurd g
 
@@ -227,6 +228,16 @@ load_failed (loads.Bad file place) limit old new h = record {
   cause = inl h.cause;
   made = h.made;
   ends = inl h.ends.0;
+  silent = ap sent_by h.ends.0 ∙ disk_silent syncs (refl, (refl, tt));
+  grown = h.grown;
+  images = λ c now. inl (h.images c now);
+  time = weaker old new _ _ h.time (λ l c p. (p.0, inl p.1));
+  counted = spent_counted old new h.spent;
+}
+load_failed loads.NoJournal limit old new h = record {
+  cause = h.cause;
+  made = h.made;
+  ends = h.ends.0;
   silent = ap sent_by h.ends.0 ∙ disk_silent syncs (refl, (refl, tt));
   grown = h.grown;
   images = λ c now. inl (h.images c now);

@@ -1,5 +1,5 @@
 -- A node that was started, or not.
-use Rattle.std.proofs.Common.{ℕ, List, Result, Ok, Err, [], ◌∷◌, ◌++◌, ◌+◌, ◌≡◌, ◌≤◌, ◌<◌, ◌⊎◌, inl, inr, ⊎_elim, false, map, option_map, refl, sym, ◌∙◌, ap, subst, arith}
+use Rattle.std.proofs.Common.{ℕ, List, Result, Ok, Err, [], ◌∷◌, ◌++◌, ◌+◌, ◌≡◌, ◌≤◌, ◌<◌, ◌⊎◌, inl, inr, ⊎_elim, false, length, map, option_map, refl, sym, ◌∙◌, ap, subst, arith}
 use Rattle.std.proofs.lemmas.List.{append_assoc, map-append}
 use Rattle.at_base.specs.declared.record.Record.{Record}
 use Rattle.at_base.specs.declared.record.Record.TheVariants as records
@@ -11,7 +11,7 @@ use Rattle.decision_log.specs.ShrunkJournals.{ShrinksTheSame}
 use Rattle.journal_at.specs.declared.journal.Journal.{Journal}
 use Rattle.journal_at.specs.declared.version.Version.{Version}
 use Rattle.journal_at.specs.declared.version.Version.TheVariants.{One, Two}
-use Rattle.journal_at.specs.Format.{records_of}
+use Rattle.journal_at.specs.Format.{frames, records_of}
 use Rattle.journal_at.specs.Loads.{Lasts, shuts_if, syncs}
 use Rattle.model_laws.specs.Order.{IdsRise, IsInOrder}
 use Rattle.model_laws.specs.BookBounds.{IsSound, RecordsAreWellFormed}
@@ -28,7 +28,7 @@ use Rattle.node_at.specs.State.{IsNode, State}
 use Rattle.node_at.proofs.StartRecords.{kept_carried, reads_in}
 use Rattle.node_at.proofs.CallRows.{after_that, grown_then, through}
 use Rattle.node_at.proofs.StartParts.{breaks_behind, counted_then, due_then, open_images}
-use Rattle.node_at.proofs.BodyRecords.{are_formed, old_generation, open_end}
+use Rattle.node_at.proofs.BodyRecords.{are_formed, begun, old_generation, open_end}
 use Rattle.node_at.proofs.DiskCalls.{disk_breaks, disk_silent, disk_some, start_disk}
 use Rattle.node_at.proofs.IdFacts.{and_then, weaker}
 
@@ -88,6 +88,7 @@ not_next o limit faults.Full old mid h x = reads_in o limit old mid h faults.Ful
 not_next o limit faults.NoMemory old mid h x = absurd x
 not_next o limit faults.Disk old mid h x = absurd x
 not_next o limit (faults.Bad file place) old mid h x = absurd x
+not_next o limit faults.NoJournal old mid h x = absurd x
 
 pub no_room : (o : Opened) (limit : ℕ) (old mid : Told) → Opens o limit old mid → CannotStart faults.NoMemory limit old mid
 no_room o limit old mid h = reads_in o limit old mid h faults.NoMemory tt (inl (inr (h.bare, refl)))
@@ -132,6 +133,7 @@ begin_failed o after limit n e old mid new h (is, least, fits) b = on e b.goes.r
         counted = counted_then old mid new h.counted b.goes.counted;
       }
   on (faults.Bad file place) ran due = absurd ran
+  on faults.NoJournal ran due = absurd ran
   on faults.Spent ran due = absurd ran
   on faults.Full ran due = absurd ran
 
@@ -170,6 +172,10 @@ order_start o after base limit n book old mid h law same (is, least, fits) e =
 
 pub node_same : {s t : State} → t ≡ s → IsNode s → IsNode t
 node_same {s} {t} e h = subst IsNode (sym e) h
+
+-- a file of version 2 has a body
+pub begun_start : {rs : List Record} {s : Told} (j : Journal) (o : IsOpen Two rs j s) → 1 ≤ j.end
+begun_start {rs} {s} j o = let m = begun o.bodies o.of in omega (arith, o.keeps.end, ap (λ z. length (frames z)) m.is)
 
 pub kept_start : {T : Type 0} (rs : List Record) (x : T) (o after : Opened) (mid new : Told) → Begins {T = T} (Ok x) rs o after mid new → IsKept (known after.kept)
 kept_start rs x o after mid new b = record { all = started o.version rs; formed = are_formed Two (started o.version rs) (records_of b.holds.bodies) b.holds.are; is = b.kept }

@@ -84,9 +84,9 @@ fits a limit need unsure o h sure = ⊎_elim (λ past. absurd (subst IsOther (h.
 
 pub went_landed : (r : Record) (n m : State) (b : Book) (fx : List Effect) (leaving : List Leaving) (old mid new : Told)
     → IsAppended appends.Done r (bytes_of r) n.journal m.journal old mid → Counted old mid
-    → Sends (given (Some (token_of r)) n.kept) n.kept.done leaving mid new → n.journal.unsure ≡ false → m.halted ≡ false
+    → Sends (given (Some (token_of r)) n.kept) n.kept.done leaving mid new → n.journal.unsure ≡ false → 1 ≤ n.journal.end → m.halted ≡ false
     → m.book ≡ b → m.effects ≡ n.effects ++ fx → m.kept ≡ after r n.kept → Went (Some r) true b fx leaving n m old new
-went_landed r n m b fx leaving old mid new h c k sure runs book effects kept =
+went_landed r n m b fx leaving old mid new h c k sure least runs book effects kept =
     let calls = h.calls sure in
     record {
       book = book;
@@ -106,18 +106,18 @@ went_landed r n m b fx leaving old mid new h c k sure runs book effects kept =
       unshut = h.same.unshut;
       sure = stays_sure m.journal.unsure (λ e. subst IsUnsure (sym (h.unsure.0 e)) tt);
       runs = runs;
-      stands = λ bodies keeps. keeps_on m.journal (bodies ++ bytes_of r ∷ []) mid new k.files k.images (h.appended bodies sure keeps).after;
+      stands = λ bodies keeps. keeps_on m.journal (bodies ++ bytes_of r ∷ []) mid new k.files k.images (h.appended bodies sure keeps least).after;
       moments = λ bodies keeps.
           step_moments old mid new n.journal.live bodies (bytes_of r ∷ []) calls.made k.made calls.grown
           (makes_silent appends.Done n.journal.live n.journal.end (bytes_of r) calls.made calls.are) k.calls
-          (weaker old mid _ _ (h.appended bodies sure keeps).time (λ l d p. (p.0, subst (λ z. EitherHolds z bodies (bytes_of r) d) h.same.live p.1)))
+          (weaker old mid _ _ (h.appended bodies sure keeps least).time (λ l d p. (p.0, subst (λ z. EitherHolds z bodies (bytes_of r) d) h.same.live p.1)))
           k.time
-          (λ d now. subst (λ z. Holds z (bodies ++ bytes_of r ∷ []) d) h.same.live ((h.appended bodies sure keeps).after.stands.images d now));
+          (λ d now. subst (λ z. Holds z (bodies ++ bytes_of r ∷ []) d) h.same.live ((h.appended bodies sure keeps least).after.stands.images d now));
     }
 
 -- the record is certainly absent
 module _ (r : Record) (n m : State) (b : Book) (fx : List Effect) (leaving : List Leaving) (old mid new : Told) (c : Counted old mid)
-    (k : Sends (given None n.kept) n.kept.done leaving mid new) (sure : n.journal.unsure ≡ false) (runs : m.halted ≡ false)
+    (k : Sends (given None n.kept) n.kept.done leaving mid new) (sure : n.journal.unsure ≡ false) (least : 1 ≤ n.journal.end) (runs : m.halted ≡ false)
     (book : m.book ≡ b) (effects : m.effects ≡ n.effects ++ fx) (kept : m.kept ≡ n.kept) where
   pub went_refused : IsAppended appends.Refused r (bytes_of r) n.journal m.journal old mid → Went (Some r) false b fx leaving n m old new
   went_refused h =
@@ -140,13 +140,13 @@ module _ (r : Record) (n m : State) (b : Book) (fx : List Effect) (leaving : Lis
         unshut = h.same.unshut;
         sure = stays_sure m.journal.unsure (λ e. subst IsUnsure (sym (h.unsure.0 e)) tt);
         runs = runs;
-        stands = λ bodies keeps. subst (λ z. Keeps m.journal z new) (sym (append-nil bodies)) (keeps_on m.journal bodies mid new k.files k.images (h.appended bodies sure keeps).after);
+        stands = λ bodies keeps. subst (λ z. Keeps m.journal z new) (sym (append-nil bodies)) (keeps_on m.journal bodies mid new k.files k.images (h.appended bodies sure keeps least).after);
         moments = λ bodies keeps.
             step_moments old mid new n.journal.live bodies [] calls.made k.made calls.grown
             (makes_silent appends.Refused n.journal.live n.journal.end (bytes_of r) calls.made calls.are) k.calls
-            (weaker old mid _ _ (h.appended bodies sure keeps).time (λ l d p. (p.0, inl (subst (λ z. Holds z bodies d) h.same.live p.1))))
+            (weaker old mid _ _ (h.appended bodies sure keeps least).time (λ l d p. (p.0, inl (subst (λ z. Holds z bodies d) h.same.live p.1))))
             k.time
-            (λ d now. subst (λ z. Holds n.journal.live z d) (sym (append-nil bodies)) (subst (λ z. Holds z bodies d) h.same.live ((h.appended bodies sure keeps).after.stands.images d now)));
+            (λ d now. subst (λ z. Holds n.journal.live z d) (sym (append-nil bodies)) (subst (λ z. Holds z bodies d) h.same.live ((h.appended bodies sure keeps least).after.stands.images d now)));
       }
 
   pub went_full : IsAppended appends.Full r (bytes_of r) n.journal m.journal old mid → Went (Some r) false b fx leaving n m old new
@@ -170,13 +170,13 @@ module _ (r : Record) (n m : State) (b : Book) (fx : List Effect) (leaving : Lis
         unshut = h.same.unshut;
         sure = stays_sure m.journal.unsure (λ e. subst IsUnsure (sym (h.unsure.0 e)) tt);
         runs = runs;
-        stands = λ bodies keeps. subst (λ z. Keeps m.journal z new) (sym (append-nil bodies)) (keeps_on m.journal bodies mid new k.files k.images (h.appended bodies sure keeps).after);
+        stands = λ bodies keeps. subst (λ z. Keeps m.journal z new) (sym (append-nil bodies)) (keeps_on m.journal bodies mid new k.files k.images (h.appended bodies sure keeps least).after);
         moments = λ bodies keeps.
             step_moments old mid new n.journal.live bodies [] calls.made k.made calls.grown
             (makes_silent appends.Full n.journal.live n.journal.end (bytes_of r) calls.made calls.are) k.calls
-            (weaker old mid _ _ (h.appended bodies sure keeps).time (λ l d p. (p.0, inl (subst (λ z. Holds z bodies d) h.same.live p.1))))
+            (weaker old mid _ _ (h.appended bodies sure keeps least).time (λ l d p. (p.0, inl (subst (λ z. Holds z bodies d) h.same.live p.1))))
             k.time
-            (λ d now. subst (λ z. Holds n.journal.live z d) (sym (append-nil bodies)) (subst (λ z. Holds z bodies d) h.same.live ((h.appended bodies sure keeps).after.stands.images d now)));
+            (λ d now. subst (λ z. Holds n.journal.live z d) (sym (append-nil bodies)) (subst (λ z. Holds z bodies d) h.same.live ((h.appended bodies sure keeps least).after.stands.images d now)));
       }
 
 -- there is no record
@@ -216,8 +216,8 @@ gate_rose unsure rose e (inl f) = absurd (true≢false (sym f ∙ e))
 gate_rose unsure rose e (inr h) = h
 
 pub stopped : (r : Record) (n m : State) (leaving : List Leaving) (old new : Told) → IsAppended appends.Unsure r (bytes_of r) n.journal m.journal old new
-    → n.journal.unsure ≡ false → m ≡ record n { journal = m.journal; halted = true } → Stopped r leaving n m old new
-stopped r n m leaving old new h sure e =
+    → n.journal.unsure ≡ false → 1 ≤ n.journal.end → m ≡ record n { journal = m.journal; halted = true } → Stopped r leaving n m old new
+stopped r n m leaving old new h sure least e =
     let calls = h.calls sure in
     record {
       same = e;
@@ -230,7 +230,7 @@ stopped r n m leaving old new h sure e =
       moments = λ bodies keeps.
           halted_moments old new n.journal.live bodies (record { landed = bytes_of r ∷ []; sent = map call_by leaving }) calls.made calls.grown
           (makes_silent appends.Unsure n.journal.live n.journal.end (bytes_of r) calls.made calls.are)
-          (weaker old new _ _ (h.appended bodies sure keeps).time (λ l d p. (p.0, subst (λ z. EitherHolds z bodies (bytes_of r) d) h.same.live p.1)));
+          (weaker old new _ _ (h.appended bodies sure keeps least).time (λ l d p. (p.0, subst (λ z. EitherHolds z bodies (bytes_of r) d) h.same.live p.1)));
     }
 
 -- The counts.

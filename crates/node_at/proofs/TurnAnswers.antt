@@ -1,12 +1,15 @@
 -- Whatever is asked is answered.
-use Rattle.std.proofs.Common.{ℕ, List, [], ◌∷◌, ◌≡◌, inl, inr, nat_eq, refl, sym, ◌∙◌, ap, subst, true≢false, if◌then◌else◌, Bool, true, false}
+use Rattle.std.proofs.Common.{ℕ, List, [], ◌∷◌, ◌≡◌, ◌⊎◌, inl, inr, nat_eq, refl, sym, ◌∙◌, ap, subst, true≢false, if◌then◌else◌, Bool, true, false}
 use Rattle.at_base.specs.declared.event.Event.TheVariants as events
 use Rattle.at_base.specs.declared.outs.Out.{Out}
 use Rattle.at_base.specs.declared.outs.Out.TheVariants as outs
 use Rattle.at_model.specs.Book.{Book}
 use Rattle.at_model.specs.Step.{Outcome}
 use Rattle.http_post.specs.OutBytes.{has_reason}
+use Rattle.at_base.specs.declared.record.Record.{Record}
+use Rattle.decision_log.specs.KeptRecords.{kept_of}
 use Rattle.journal_at.specs.StandingBodies.{Counted}
+use Rattle.journal_at.specs.declared.version.Version.TheVariants.{Two}
 use Rattle.site_model.specs.Counts.{Rose}
 use Rattle.site_model.specs.Site.{Counts as Numbers}
 use Rattle.site_model.specs.Told.{Told}
@@ -14,10 +17,13 @@ use Rattle.node_at.specs.declared.role.Role.{Role}
 use Rattle.node_at.specs.declared.turn.Turned.{Turned}
 use Rattle.node_at.specs.declared.turn.Turned.TheVariants as turneds
 use Rattle.node_at.specs.declared.shrink.Shrunk.{Shrunk}
-use Rattle.node_at.specs.Endings.{Ends}
+use Rattle.node_at.specs.declared.shrink.Shrunk.TheVariants.{NoMemory}
+use Rattle.node_at.specs.Endings.{Ends, Renews}
 use Rattle.node_at.specs.Meanings.{IsFit, Meaning}
 use Rattle.node_at.specs.Meanings.Meaning.{Refused, Steps, Lost, Unread}
 use Rattle.node_at.specs.Replies.{IsReply, StepsReply}
+use Rattle.node_at.specs.ShrunkJournals.{IsDue, Shrinks, Stays}
+use Rattle.node_at.specs.Starts.{IsOpen}
 use Rattle.node_at.specs.State.{State}
 use Rattle.node_at.specs.Steps.{status_in}
 use Rattle.node_at.specs.Turns.{IsAnswer, Turns, is_tick}
@@ -123,3 +129,23 @@ pub turn_received : {S : Type 0} (told : S → Told) (first result : Turned) (ro
     → Ends told first result shrunk k m mid new → Counted (told mid) (told new) → IsAnswer result → (told new).counts.receive ≡ (told old).counts.receive
 turn_received told first result role shrunk n k m old mid new steps ends counted answered =
     ap (λ (z : Numbers). z.receive) counted.others ∙ turned_received first role n k (told old) (told mid) steps (answered_first told first result shrunk k m mid new ends answered)
+
+-- all steps were done, the journal was written anew or not, and the node runs
+pub goes_on : {S : Type 0} (told : S → Told) (turned : Turned) (shrunk result : Shrunk) (n m : State) (old new : S) → ((status : ℕ) × (turned ≡ turneds.Served status)) ⊎ (turned ≡ turneds.Ticked)
+    → m.halted ≡ false → shrunk ≡ result → Shrinks result n m (told old) (told new) → ((IsDue n → ⊥) → new ≡ old) → (result ≡ NoMemory → new ≡ old)
+    → ((rs : List Record) → IsOpen Two rs n.journal (told old) → n.kept ≡ kept_of Two rs → Stays rs m (told old) (told new)) → Counted (told old) (told new) → Ends told turned turned shrunk n m old new
+goes_on {S} told turned shrunk result n m old new whole runs is shrinks idle memory stays counted = by whole
+  where
+    renews : (x : Turned) → Renews told x x shrunk n m old new
+    renews x = record {
+      shrinks = subst (λ z. Shrinks z n m (told old) (told new)) (sym is) shrinks;
+      idle = idle;
+      memory = λ e. memory (sym is ∙ e);
+      stays = stays;
+      counted = counted;
+      answers = sym (ap (λ b. if b then turneds.Halted else x) runs);
+    }
+
+    by : ((status : ℕ) × (turned ≡ turneds.Served status)) ⊎ (turned ≡ turneds.Ticked) → Ends told turned turned shrunk n m old new
+    by (inl (status, e)) = subst (λ z. Ends told z z shrunk n m old new) (sym e) (renews (turneds.Served status))
+    by (inr e) = subst (λ z. Ends told z z shrunk n m old new) (sym e) (renews turneds.Ticked)

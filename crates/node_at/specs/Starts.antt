@@ -19,7 +19,7 @@ use Rattle.journal_at.specs.declared.version.Version.{Version}
 use Rattle.journal_at.specs.declared.version.Version.TheVariants.{One, Two}
 use Rattle.journal_at.specs.Format.{frames, head_of, mark_body, records_of}
 use Rattle.journal_at.specs.Loads.{FailsAt, IsBare, IsJudged, Lasts, shuts_if, syncs}
-use Rattle.journal_at.specs.Pairs.{FilesOf, HasLive, Holds}
+use Rattle.journal_at.specs.Pairs.{FilesOf, HasLive, Holds, IsForeign}
 use Rattle.journal_at.specs.Frames.{ArePlaced}
 use Rattle.journal_at.specs.Scans.{IsGate, records_in}
 use Rattle.journal_at.specs.StandingBodies.{Counted, Keeps, lay, raise}
@@ -31,7 +31,7 @@ use Rattle.decision_log.specs.declared.keep.KeepFault.TheVariants as keeps
 use Rattle.decision_log.specs.KeptState.{known}
 use Rattle.node_at.specs.declared.opened_journal.Opened.{Opened}
 use Rattle.node_at.specs.declared.fault.StartFault.{StartFault}
-use Rattle.node_at.specs.declared.fault.StartFault.TheVariants.{NoMemory, Disk, Bad, Spent, Full}
+use Rattle.node_at.specs.declared.fault.StartFault.TheVariants.{NoMemory, Disk, Bad, NoJournal, Spent, Full}
 use Rattle.node_at.specs.Sizes.{end_of, size_of}
 
 -- the files stand for these records, of this version
@@ -195,6 +195,7 @@ abbrev pub IsCause : StartFault → ℕ → Told → Told → Type 0
 IsCause NoMemory limit old new = Unit {0}
 IsCause Disk limit old new = Rose old.counts.disk new.counts.disk ⊎ Rose old.counts.gate new.counts.gate
 IsCause (Bad file place) limit old new = ((f : Files) → Is old.files f → IsJudged file place f) ⊎ IsNoRecord file place old new
+IsCause NoJournal limit old new = (f : Files) → Is old.files f → IsForeign f
 IsCause Spent limit old new = (version : Version) × (rs : List Record) × Found version rs old × (last_incarnation rs ≡ 4294967295)
 IsCause Full limit old new =
     (version : Version) × (rs : List Record) × Found version rs old × (last_incarnation rs < 4294967295) × (limit < size_of (started version rs))
@@ -240,6 +241,7 @@ MadeSome made calls = (front rest : List Call) × (calls ≡ front ++ rest) × (
 abbrev pub Ends : StartFault → List Made → Told → Type 0
 Ends Disk made old = FailsAt made old ⊎ BeganTo (λ calls. BreaksOff calls made) old
 Ends NoMemory made old = OnlyReads made ⊎ BeganTo (MadeSome made) old
+Ends NoJournal made old = made ≡ map done syncs
 Ends other made old = OnlyReads made
 
 -- what a crash leaves in a start: what it might have left before, or what stands for what the files did, or for that on
@@ -279,6 +281,7 @@ abbrev pub load_fault : LoadFault → StartFault
 load_fault loads.NoMemory = NoMemory
 load_fault loads.Disk = Disk
 load_fault (loads.Bad file place) = Bad file place
+load_fault loads.NoJournal = NoJournal
 
 -- what is kept of what was read
 abbrev pub Gathers : Result Opened StartFault → Journal → Records → Type 0

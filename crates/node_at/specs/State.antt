@@ -1,5 +1,5 @@
 -- A node as contracts see it.
-use Rattle.std.specs.Prelude.{List, Bool, ◌≡◌}
+use Rattle.std.specs.Prelude.{List, Bool, ◌≡◌, ◌≤◌}
 use Rattle.at_base.specs.declared.outs.Effect.{Effect}
 use Rattle.at_model.specs.Book.{Book}
 use Rattle.decision_log.specs.KeptState.{known}
@@ -20,9 +20,11 @@ abbrev pub seen : Node → State
 seen n = record { book = n.book; kept = known n.kept; journal = n.journal; effects = n.effects.items; halted = n.halted }
 
 -- What holds of a node between its calls: its book is within its bounds, it keeps what well-formed records leave, the promises
--- of the book are live in what it keeps, and it has halted exactly where its journal is unsure.
+-- of the book are live in what it keeps, it has halted exactly where its journal is unsure, and the journal's live file has a
+-- body.
 pub record IsNode (n : State) : Type 0 where
   pub sound : IsSound n.book
   pub kept : IsKept n.kept
   pub promises : PromisesStand n.book n.kept
   pub sure : n.journal.unsure ≡ n.halted
+  pub begun : 1 ≤ n.journal.end

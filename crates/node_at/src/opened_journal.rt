@@ -87,6 +87,7 @@ fn migrate<S: Site>(
 ) -> Result<(), StartFault>
     requires kept { IsKept (known kept.now) }
     requires generation { journal.old.generation < 4294967295 }
+    requires begun { 1 ≤ journal.old.end }
     ensures migrates { (rs : List Record) → IsOpen One rs journal.old (S.told site.old) → known kept.now ≡ kept_of One rs → size_of (carried One rs) ≤ journal.old.limit
         → Carries (anew_calls journal.old (carried One rs)) One rs (carried One rs) result journal.new (S.told site.old) (S.told site.new) }
     ensures limit { journal.new.limit ≡ journal.old.limit }
@@ -166,6 +167,7 @@ fn load_fault(fault: LoadFault) -> StartFault
         LoadFault::NoMemory => StartFault::NoMemory,
         LoadFault::Disk => StartFault::Disk,
         LoadFault::Bad { file, place } => StartFault::Bad { file, place },
+        LoadFault::NoJournal => StartFault::NoJournal,
     }
 }
 

@@ -124,6 +124,7 @@ impl Node {
         ensures effects { IfOk result (λ p. (landed : Bool) → length self.new.effects.items + length (sent p.plan landed).effects ≤ vec_capacity self.new.effects) }
         ensures same { seen self.new ≡ seen self.old }
         ensures kept { known self.new.kept ≡ known self.old.kept }
+        ensures end { self.new.journal.end ≡ self.old.journal.end }
         ensures role { self.new.role ≡ self.old.role }
         ensures shrunk { self.new.shrunk ≡ self.old.shrunk }
     {
@@ -146,6 +147,7 @@ impl Node {
         requires leave { AllMayLeave (given (option_copied fresh) (known self.old.kept)) (known self.old.kept).done all.items }
         ensures seen { seen self.new ≡ record (seen self.old) { book = done plan landed self.old.book; effects = self.old.effects.items ++ (sent plan landed).effects } }
         ensures kept { self.new.kept ≡ self.old.kept }
+        ensures end { self.new.journal.end ≡ self.old.journal.end }
         ensures role { self.new.role ≡ self.old.role }
         ensures shrunk { self.new.shrunk ≡ self.old.shrunk }
         ensures status { result ≡ status_in (sent plan landed).outs }
@@ -175,8 +177,10 @@ impl Node {
         requires absent { AllMayLeave (given None (known self.old.kept)) (known self.old.kept).done absent.items }
         requires runs { self.old.halted ≡ false }
         requires sure { self.old.journal.unsure ≡ false }
+        requires begun { 1 ≤ self.old.journal.end }
         ensures acts { Acts result plan entry.entry landed.items absent.items (seen self.old) (seen self.new) (S.told site.old) (S.told site.new) }
         ensures nothing { result ≡ NoRoom → site.new ≡ site.old }
+        ensures end { self.old.journal.end ≤ self.new.journal.end }
         ensures role { self.new.role ≡ self.old.role }
         ensures shrunk { self.new.shrunk ≡ self.old.shrunk }
         ensures counted { Keeping (S.told site.old) (S.told site.new) }
@@ -219,9 +223,11 @@ impl Node {
         requires promises { PromisesStand self.old.book (known self.old.kept) }
         requires runs { self.old.halted ≡ false }
         requires sure { self.old.journal.unsure ≡ false }
+        requires begun { 1 ≤ self.old.journal.end }
         ensures steps { Steps result (seen self.old) (seen self.new) event.now now (S.told site.old) (S.told site.new) }
         ensures sound { IsSound self.new.book }
         ensures nothing { result ≡ NoRoom → site.new ≡ site.old }
+        ensures end { self.old.journal.end ≤ self.new.journal.end }
         ensures role { self.new.role ≡ self.old.role }
         ensures shrunk { self.new.shrunk ≡ self.old.shrunk }
         ensures counted { Keeping (S.told site.old) (S.told site.new) }

@@ -56,7 +56,9 @@ fn a_start_leaves_its_record(rt: HostRuntime) -> Result<(), Fail> {
     Ok(())
 }
 
-/// File 0, the limit, and what a start answers: 0 that it started, or else Disk 1, Bad 2, Spent 3, Full 4.
+const TEXT: &[u8] = b"Dear diary,\nit rained all day.\n";
+
+/// File 0, the limit, and what a start answers: 0 that it started, or else Disk 1, Bad 2, Spent 3, Full 4, NoJournal 5.
 const FAULTS: &[(&[u8], u32, u8)] = &[
     (b"", 20, 4),
     (b"", 21, 0),
@@ -81,6 +83,11 @@ const FAULTS: &[(&[u8], u32, u8)] = &[
     // no list of bodies, and a body that is no record
     (b"\x01\x00\x00\x00\x05\x01\x00", 1000, 2),
     (b"\x01\x00\x00\x00\x01a\x00", 1000, 2),
+    // a text, and files without a body that are as long as a new journal's may be, and longer
+    (TEXT, 1000, 5),
+    (b"a few words", 1000, 0),
+    (b"a few words.", 1000, 5),
+    (b"a few words.", 0, 5),
 ];
 
 fn answers(alloc: Global, file: &[u8], limit: u32) -> u8 {
@@ -93,10 +100,14 @@ fn answers(alloc: Global, file: &[u8], limit: u32) -> u8 {
         Err(StartFault::Bad { .. }) => 2,
         Err(StartFault::Spent) => 3,
         Err(StartFault::Full) => 4,
+        Err(StartFault::NoJournal) => 5,
         Err(StartFault::NoMemory) => 9,
     };
-    // a start that is refused writes nothing
-    if answer > 0 && (site.file(0) != file && !file.is_empty()) {
+    // a start that is refused writes nothing, but a shut gate into an empty file
+    if answer > 0 && site.file(0) != file && !file.is_empty() {
+        return 8;
+    }
+    if answer > 0 && !site.file(1).is_empty() {
         return 8;
     }
     answer

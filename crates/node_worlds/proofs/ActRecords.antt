@@ -142,6 +142,7 @@ module _ (law : RecordsAreBodies) where
       is = record { listed = listed_more o.bodies xs rs o.of o.keeps.stands.listed are; is = inr h.closed };
       other = h.beside.is;
       newer = h.beside.newer;
+      journal = h.journal;
       versions = head_more o.bodies xs o.of;
       all = refl;
     };

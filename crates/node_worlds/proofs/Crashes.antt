@@ -341,6 +341,7 @@ up_same rs n s c u im =
           is = record { listed = u.holds.keeps.stands.listed; is = inr h.closed };
           other = h.beside.is;
           newer = h.beside.newer;
+          journal = h.journal;
           versions = u.holds.of;
           all = refl;
         };

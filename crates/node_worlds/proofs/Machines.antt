@@ -101,6 +101,7 @@ empty_stands = record {
       is = record { listed = record { sized = tt; placed = tt }; is = inl (omega arith, refl) };
       other = record { listed = record { sized = tt; placed = tt }; is = inl (omega arith, refl) };
       newer = omega arith;
+      journal = record { first = omega arith; second = omega arith };
       versions = refl;
       all = refl;
     };

@@ -238,5 +238,6 @@ starts_are_read told_calls links apart images leave leave_failed want base (Err 
     failed_read told_calls links apart images leave leave_failed base old t last armed made K told adds B armed refl
 starts_are_read told_calls links apart images leave leave_failed want base (Err ends.NoMemory) old t last armed made K can told B adds memory = absurd (memory refl)
 starts_are_read told_calls links apart images leave leave_failed want base (Err (ends.Bad file place)) old t last armed made K can told B adds memory = absurd (want base (ends.Bad file place) old t can B)
+starts_are_read told_calls links apart images leave leave_failed want base (Err ends.NoJournal) old t last armed made K can told B adds memory = absurd (want base ends.NoJournal old t can B)
 starts_are_read told_calls links apart images leave leave_failed want base (Err ends.Spent) old t last armed made K can told B adds memory = absurd (want base ends.Spent old t can B)
 starts_are_read told_calls links apart images leave leave_failed want base (Err ends.Full) old t last armed made K can told B adds memory = absurd (want base ends.Full old t can B)

@@ -83,6 +83,7 @@ finishes (Some endings.SinkFailed) met answer text x y e h = all_of_it text x y 
 finishes (Some endings.DiskFailed) met answer text x y e h = (e, h)
 finishes (Some endings.Halted) met answer text x y e h = (e, h)
 finishes (Some endings.BadJournal) met answer text x y e h = (e, h)
+finishes (Some endings.NoJournal) met answer text x y e h = (e, h)
 finishes (Some endings.ListenerFailed) met answer text x y e h = (e, h)
 finishes (Some endings.NoMemory) met answer text x y e h = inl (e, h)
 finishes (Some endings.Spent) met answer text x y e h = (e, h)
@@ -271,6 +272,7 @@ module _ {S : Type 0} (told : S → Told) (role : Role) (all : List Item) (n : S
       stops h endings.DiskFailed answer d f = tells h answer endings.DiskFailed d f
       stops h endings.Halted answer d f = tells h answer endings.Halted d f
       stops h endings.BadJournal answer d f = tells h answer endings.BadJournal d f
+      stops h endings.NoJournal answer d f = tells h answer endings.NoJournal d f
       stops h endings.ListenerFailed answer d f = tells h answer endings.ListenerFailed d f
       stops h endings.NoMemory answer d f = wants h answer d f
       stops h endings.Spent answer d f = tells h answer endings.Spent d f

@@ -73,6 +73,7 @@ module _ {S : Type 0} (told : S → Told) (role : Role) (all : List Item) (n : S
   comes_by endings.DiskFailed x y z h p = whole endings.DiskFailed x y z h p
   comes_by endings.Halted x y z h p = whole endings.Halted x y z h p
   comes_by endings.BadJournal x y z h p = whole endings.BadJournal x y z h p
+  comes_by endings.NoJournal x y z h p = whole endings.NoJournal x y z h p
   comes_by endings.ListenerFailed x y z h p = whole endings.ListenerFailed x y z h p
   comes_by endings.NoMemory x y z h p = wants x y z h p
   comes_by endings.Spent x y z h p = whole endings.Spent x y z h p
@@ -148,6 +149,7 @@ module _ {S : Type 0} (told : S → Told) (v : Serviced) (old new : S) where
   }
   whole_as s faults.Disk h c x y p = unstarted_told s faults.Disk h c x y p
   whole_as s (faults.Bad file place) h c x y p = unstarted_told s (faults.Bad file place) h c x y p
+  whole_as s faults.NoJournal h c x y p = unstarted_told s faults.NoJournal h c x y p
   whole_as s faults.Spent h c x y p = unstarted_told s faults.Spent h c x y p
   whole_as s faults.Full h c x y p = unstarted_told s faults.Full h c x y p
 
@@ -171,6 +173,7 @@ module _ {S : Type 0} (told : S → Told) (v : Serviced) (old new : S) where
     came_as endings.DiskFailed x y c = came_told endings.DiskFailed x y c
     came_as endings.Halted x y c = came_told endings.Halted x y c
     came_as endings.BadJournal x y c = came_told endings.BadJournal x y c
+    came_as endings.NoJournal x y c = came_told endings.NoJournal x y c
     came_as endings.ListenerFailed x y c = came_told endings.ListenerFailed x y c
     came_as endings.NoMemory x y c = record { cut = came_cut x y c.cut; wanting = c.wanting }
     came_as endings.Spent x y c = came_told endings.Spent x y c

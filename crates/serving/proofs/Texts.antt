@@ -5,7 +5,7 @@ use Rattle.std.proofs.lemmas.List.{length-append}
 use Rattle.at_base.specs.Numbers.{Numbers}
 use Rattle.at_base.specs.declared.outs.Effect.{Effect}
 use Rattle.at_base.specs.declared.outs.Effect.TheVariants as effects
-use Rattle.serving.specs.Lines.{bad_line, effect_line, effect_lines, item_line, refused_line, up_line}
+use Rattle.serving.specs.Lines.{bad_line, effect_line, effect_lines, item_line, no_journal_line, refused_line, up_line}
 
 in_front : (a b : List ℕ) → 0 < length a → 0 < length (a ++ b)
 in_front a b h = omega (arith, h, length-append a b)
@@ -32,6 +32,10 @@ pub bad_some : (file place : ℕ) → 0 < length (bad_line file place)
 unfolding bad_line
 bad_some zero place = in_front (codes "bad journal at ") _ (omega arith)
 bad_some (suc n) place = in_front (codes "bad journal file 1 at ") _ (omega arith)
+
+pub no_journal_some : 0 < length no_journal_line
+unfolding no_journal_line
+no_journal_some = omega arith
 
 pub up_some : (incarnation : ℕ) → 0 < length (up_line incarnation ++ [])
 unfolding up_line

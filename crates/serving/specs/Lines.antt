@@ -42,7 +42,12 @@ unfoldable pub bad_line : ℕ → ℕ → List ℕ
 bad_line zero place = codes "bad journal at " ++ (decimal place ++ codes "\n")
 bad_line (suc n) place = codes "bad journal file 1 at " ++ (decimal place ++ codes "\n")
 
+-- the files are no journal
+unfoldable pub no_journal_line : List ℕ
+no_journal_line = codes "no journal\n"
+
 -- what is printed where a node wasn't started
 abbrev pub fault_text : StartFault → List ℕ
 fault_text (faults.Bad file place) = bad_line file place
+fault_text faults.NoJournal = no_journal_line
 fault_text other = []

@@ -87,6 +87,7 @@ abbrev pub start_ended : StartFault → Ended
 start_ended faults.NoMemory = endings.NoMemory
 start_ended faults.Disk = endings.DiskFailed
 start_ended (faults.Bad file place) = endings.BadJournal
+start_ended faults.NoJournal = endings.NoJournal
 start_ended faults.Spent = endings.Spent
 start_ended faults.Full = endings.Full
 
@@ -142,6 +143,7 @@ Prints P endings.Done before after = IsTold P endings.Done before after
 Prints P endings.DiskFailed before after = IsTold P endings.DiskFailed before after
 Prints P endings.Halted before after = IsTold P endings.Halted before after
 Prints P endings.BadJournal before after = IsTold P endings.BadJournal before after
+Prints P endings.NoJournal before after = IsTold P endings.NoJournal before after
 Prints P endings.ListenerFailed before after = IsTold P endings.ListenerFailed before after
 Prints P endings.Spent before after = IsTold P endings.Spent before after
 Prints P endings.Full before after = IsTold P endings.Full before after

@@ -46,6 +46,7 @@ Finishes (Some endings.Done) met answer text before after = Whole met answer (So
 Finishes (Some endings.DiskFailed) met answer text before after = Whole met answer (Some endings.DiskFailed) text before after
 Finishes (Some endings.Halted) met answer text before after = Whole met answer (Some endings.Halted) text before after
 Finishes (Some endings.BadJournal) met answer text before after = Whole met answer (Some endings.BadJournal) text before after
+Finishes (Some endings.NoJournal) met answer text before after = Whole met answer (Some endings.NoJournal) text before after
 Finishes (Some endings.ListenerFailed) met answer text before after = Whole met answer (Some endings.ListenerFailed) text before after
 Finishes (Some endings.Spent) met answer text before after = Whole met answer (Some endings.Spent) text before after
 Finishes (Some endings.Full) met answer text before after = Whole met answer (Some endings.Full) text before after

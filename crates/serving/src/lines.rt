@@ -1,8 +1,8 @@
 //! The lines that are printed.
 
-ghost use Rattle.std.specs.Prelude.{ℕ, List, ◌≡◌, ◌≤◌, ◌<◌, Err, IfOk, OnErr, OnOk, length, string_bytes};
+ghost use Rattle.std.specs.Prelude.{ℕ, List, ◌≡◌, ◌++◌, ◌≤◌, ◌<◌, Err, IfOk, OnErr, OnOk, length, string_bytes};
 ghost use Rattle.site_model.specs.Counts.{Rose};
-ghost use Rattle.serving.specs.Lines.{effect_line, effect_lines, fault_text, item_line, leaf_words, refused_line, up_line};
+ghost use Rattle.serving.specs.Lines.{effect_line, effect_lines, fault_text, item_line, leaf_words, no_journal_line, refused_line, up_line};
 ghost use Rattle.serving.specs.Printing.{Printing};
 ghost use Rattle.serving.specs.Requests.{printed};
 ghost use Rattle.serving.specs.declared.lines.Unprinted.TheVariants.{SinkFailed};
@@ -161,8 +161,16 @@ pub fn print<K: Sink>(
     }
 }
 
+/// The files are no journal.
+#[tactic(auto, unfolding(crate::specs::Lines::no_journal_line))]
+fn no_journal_line(alloc: Global) -> Result<String, AllocError>
+    ensures { IfOk result (λ text. string_bytes text ≡ no_journal_line) }
+{
+    format!(in alloc; "no journal\n")
+}
+
 /// What is printed where the node wasn't started. Memory is wanted only for something.
-#[tactic(auto, using(crate::proofs::Texts::bad_some), unfolding(crate::specs::Lines::bad_line))]
+#[tactic(auto, using(crate::proofs::Texts::bad_some, crate::proofs::Texts::no_journal_some), unfolding(crate::specs::Lines::bad_line))]
 pub fn fault_text(alloc: Global, fault: &StartFault) -> Result<String, AllocError>
     ensures is { IfOk result (λ text. string_bytes text ≡ fault_text fault.now) }
     ensures some { OnErr result (0 < length (fault_text fault.now)) }
@@ -170,6 +178,7 @@ pub fn fault_text(alloc: Global, fault: &StartFault) -> Result<String, AllocErro
     match fault {
         StartFault::Bad { file: 0, place } => format!(in alloc; "bad journal at {}\n", *place),
         StartFault::Bad { place, .. } => format!(in alloc; "bad journal file 1 at {}\n", *place),
+        StartFault::NoJournal => no_journal_line(alloc),
         StartFault::NoMemory | StartFault::Disk | StartFault::Spent | StartFault::Full => Ok(
             String::new(alloc),
         ),

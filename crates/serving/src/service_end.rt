@@ -20,6 +20,8 @@ pub enum Ended {
     Halted,
     /// The journal stands for no list of records.
     BadJournal,
+    /// The files hold nothing of a journal: the live one has no body, and one is longer than those of a new journal.
+    NoJournal,
     /// There is no listener, or it failed.
     ListenerFailed,
     /// Want of memory.
@@ -57,6 +59,7 @@ pub(crate) fn start_ended(fault: &StartFault) -> Ended
         StartFault::NoMemory => Ended::NoMemory,
         StartFault::Disk => Ended::DiskFailed,
         StartFault::Bad { .. } => Ended::BadJournal,
+        StartFault::NoJournal => Ended::NoJournal,
         StartFault::Spent => Ended::Spent,
         StartFault::Full => Ended::Full,
     }

@@ -159,6 +159,8 @@ const FILES: &[(&[u8], &[u8], Ended, &str)] = &[
         Ended::BadJournal,
         "bad journal file 1 at 0\n",
     ),
+    (b"notes of a day", b"", Ended::NoJournal, "no journal\n"),
+    (b"", b"notes of a day", Ended::NoJournal, "no journal\n"),
     (
         b"\x01\x00\x00\x00\x05\x0b\x00\x00\x00\x00\x01\x00\x00\x00\x05\x01\xff\xff\xff\xff\x00",
         b"",
@@ -214,6 +216,25 @@ fn journals_are_judged(rt: HostRuntime) -> Result<(), Fail> {
         let right = comes_up(rt.alloc(), first, second, *ended, printed);
         assert!(rt; right, "{printed}");
     }
+    Ok(())
+}
+
+/// Whether a start leaves a text as it is, and adds nothing to it.
+fn leaves(alloc: Global, text: &[u8]) -> bool {
+    let Some(mut site) = holding(alloc, text, b"") else {
+        return false;
+    };
+    served(alloc, Role::Participant, b"", 0, &mut site).is_some()
+        && site.file(0) == text
+        && site.file(1).is_empty()
+}
+
+/// Of more than 11 bytes. One of 11 may be a new journal, and is written over.
+#[test]
+fn a_text_is_not_written_over(rt: HostRuntime) -> Result<(), Fail> {
+    let long = leaves(rt.alloc(), b"twelve bytes");
+    let short = leaves(rt.alloc(), b"just eleven");
+    assert!(rt; long && !short, "{long} {short}");
     Ok(())
 }
 

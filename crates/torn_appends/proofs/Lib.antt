@@ -1,3 +1,4 @@
 pub mod DiskRuns
 pub mod GateWrites
+pub mod ShortFiles
 pub mod TornAppends

@@ -14,7 +14,7 @@ use Rattle.site_memory.specs.declared.machine.MemSite.{MemSite}
 use Rattle.site_model.specs.Told.{Told}
 use Rattle.asked_nets.specs.declared.fault.Undone.{Undone}
 use Rattle.mirrored_nets.specs.TookStart.{HasLast}
-use Rattle.mirrored_nets.proofs.ReadRecords.{not_judged, records_read}
+use Rattle.mirrored_nets.proofs.ReadRecords.{not_foreign, not_judged, records_read}
 use Rattle.asked_nets.proofs.starts.last_in.Goals as goal
 
 -- the machine's files read as those of the copy
@@ -44,8 +44,14 @@ returns-in-Ok-clause-stands c = λ standing.
     (records_read (reads (opening_in c.args.site.now.device) (calls_in c.args.site.now.device)) standing.version c.in-Ok.found.version standing.records (records_in c.in-Ok.found) standing.stand
     (c.in-Ok.ensures.0.is (reads (opening_in c.args.site.now.device) (calls_in c.args.site.now.device)) c.in_ok-copy.ensures.files))
 
-pub returns-clause-stands : goal.returns-clause-stands
-returns-clause-stands c = λ standing.
+pub returns-in-Err-Bad-clause-stands : goal.returns-in-Err-Bad-clause-stands
+returns-in-Err-Bad-clause-stands c = λ standing.
     let files = reads (opening_in c.args.site.now.device) (calls_in c.args.site.now.device) in
     let cause = subst (λ e. IsCause e (told_of c.in_ok-copy.copy) (told_of c.load.new.site)) c.in-Err-Bad.field-0-is c.in-Err-Bad.ensures.cause in
     absurd (not_judged files standing.version standing.stand.texts c.in-Err-Bad.field-0-0 c.in-Err-Bad.field-0-1 standing.stand.is (cause files c.in_ok-copy.ensures.files))
+
+pub returns-clause-stands : goal.returns-clause-stands
+returns-clause-stands c = λ standing.
+    let files = reads (opening_in c.args.site.now.device) (calls_in c.args.site.now.device) in
+    let cause = subst (λ e. IsCause e (told_of c.in_ok-copy.copy) (told_of c.load.new.site)) c.in-Err-NoJournal.field-0-is c.in-Err-NoJournal.ensures.cause in
+    absurd (not_foreign files standing.version standing.stand.texts standing.stand.is (cause files c.in_ok-copy.ensures.files))

@@ -8,8 +8,8 @@ append-requires g c = (c.are_bodies.ensures Two c.args.entry.now c.args.body.now
 pub returns-clause-appended : goal.returns-clause-appended
 returns-clause-appended g c = record {
   is = c.requires;
-  appended = λ bodies sure keeps.
-      c.append.ensures.appended bodies sure keeps (may_follow bodies c.args.body.now keeps.stands.listed (c.are_bodies.ensures Two c.args.entry.now c.args.body.now c.requires));
+  appended = λ bodies sure keeps least.
+      c.append.ensures.appended bodies sure keeps (may_follow bodies c.args.body.now c.args.journal.now.end keeps.stands.listed keeps.end least (c.are_bodies.ensures Two c.args.entry.now c.args.body.now c.requires));
   calls = c.append.ensures.calls;
   reason = c.append.ensures.reason;
   full = c.append.ensures.full;

@@ -8,7 +8,7 @@ use Rattle.node_at.proofs.opened_journal.migrate.Goals as goal
 pub returns-in-Ok-clause-migrates : goal.returns-in-Ok-clause-migrates
 returns-in-Ok-clause-migrates g c = λ rs o kept fits.
     carries_same c.compact_ended.ensures
-    (migrate_carries rs c.in-Ok.ended c.args.journal.now c.shrink.new.journal _ _ c.are_bodies.ensures o fits
+    (migrate_carries rs c.in-Ok.ended c.args.journal.now c.shrink.new.journal _ _ c.are_bodies.ensures o c.requires.begun fits
     (texts_same kept c.in-Ok.ensures.records) (compacted_same kept c.in-Ok.ensures.compacted) c.in-Ok.ensures.counted)
 
 pub returns-in-Err-clause-migrates : goal.returns-in-Err-clause-migrates

@@ -1,5 +1,5 @@
 use Rattle.std.proofs.Common.{Err, Ok, arith}
-use Rattle.node_at.proofs.StartedNodes.{begin_failed, begins_in, book_in, is_later, is_started, kept_start, next_in, no_room, node_same, not_next, open_generation, order_start, promises_start, sound_start, started_same}
+use Rattle.node_at.proofs.StartedNodes.{begin_failed, begins_in, begun_start, book_in, is_later, is_started, kept_start, next_in, no_room, node_same, not_next, open_generation, order_start, promises_start, sound_start, started_same}
 use Rattle.node_at.proofs.start.start.Goals as goal
 
 pub returns-in-Err-next-clause-starts : goal.returns-in-Err-next-clause-starts
@@ -49,6 +49,7 @@ returns-in-Ok-begin-clause-node g c =
       promises = promises_start o c.begin.new.self c.args.base.now c.args.limit n c.in-Ok-recover.book _ _ _ h c.promises_stay.ensures x book
           (order_start o c.begin.new.self c.args.base.now c.args.limit n c.in-Ok-recover.book _ _ h c.ids_rise.ensures same x book) b;
       sure = b.holds.sure;
+      begun = begun_start _ b.holds;
     })
 
 pub returns-in-Err-begin-clause-starts : goal.returns-in-Err-begin-clause-starts

@@ -14,7 +14,7 @@ returns-in-Done-clause-asked g c =
 pub returns-in-Done-clause-node : goal.returns-in-Done-clause-node
 returns-in-Done-clause-node g c =
     node_after (stepped.Done c.in-Done.status) (seen c.args.self.now) (seen c.step.new.self) (events.Local c.args.request) c.now-now.result _ _ c.keeps_on.ensures c.promises_stay.ensures c.records_are_well_formed.ensures tt
-    (node_from refl c.requires.node) c.in-Done.ensures.steps c.in-Done.ensures.sound
+    (node_from refl c.requires.node) c.in-Done.ensures.steps c.in-Done.ensures.sound c.in-Done.ensures.end
 
 pub returns-clause-asked : goal.returns-clause-asked
 returns-clause-asked g c =
@@ -24,4 +24,4 @@ returns-clause-asked g c =
 pub returns-clause-node : goal.returns-clause-node
 returns-clause-node g c =
     node_after stepped.Halted (seen c.args.self.now) (seen c.step.new.self) (events.Local c.args.request) c.now-now.result _ _ c.keeps_on.ensures c.promises_stay.ensures c.records_are_well_formed.ensures tt
-    (node_from refl c.requires.node) c.in-Halted.ensures.steps c.in-Halted.ensures.sound
+    (node_from refl c.requires.node) c.in-Halted.ensures.steps c.in-Halted.ensures.sound c.in-Halted.ensures.end

@@ -15,7 +15,7 @@ returns-in-Ok-clause-shrinks g c =
 
 pub returns-in-Ok-clause-stays : goal.returns-in-Ok-clause-stays
 returns-in-Ok-clause-stays g c = λ rs o kept.
-    stays_by rs (seen c.args.self.now) (seen c.compacted.new.self) c.shrink.new.journal _ _ c.are_bodies.ensures c.shrinks_the_same.ensures o kept c.in-Ok.ensures.records c.in-Ok.ensures.counted
+    stays_by rs (seen c.args.self.now) (seen c.compacted.new.self) c.shrink.new.journal _ _ c.are_bodies.ensures c.shrinks_the_same.ensures o kept c.in-Ok.ensures.records c.in-Ok.ensures.counted c.requires.node.begun
     c.in-Ok.ended c.in-Ok.ensures.compacted c.compacted.ensures.seen
 
 pub returns-in-Err-clause-stays : goal.returns-in-Err-clause-stays
