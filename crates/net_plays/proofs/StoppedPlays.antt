@@ -1,12 +1,15 @@
 -- Where a play comes to no end.
 use Rattle.std.proofs.Common.{ℕ, suc, ◌+◌, ◌-◌, ◌≡◌, ◌<◌, ◌++◌, ◌∷◌, inl, inr, List, [], Bool, true, refl, drop, drop-cons, get_or, length, map, ap, subst, sym, arith, ◌∙◌}
-use Rattle.std.specs.Prelude.{Option, Some, None, option_map}
+use Rattle.std.specs.Prelude.{Option, Some, None, Err, IfErr, IfOk, Ok, Result, option_map}
 use Rattle.armed_calls.specs.Faults.{raw_at}
 use Rattle.armed_calls.specs.declared.fault.Armed.{Armed as Known}
 use Rattle.asked_nets.specs.ArmedCalls.{call_of}
 use Rattle.asked_nets.specs.Behind.{events_by}
 use Rattle.asked_nets.specs.Happened.{Happened}
-use Rattle.mirrored_nets.specs.Rooms.{IsFullAt}
+use Rattle.memory_net.specs.declared.host.Host.{Host}
+use Rattle.mirrored_nets.specs.Rooms.{HasRoomAt, IsFullAt}
+use Rattle.mirrored_nets.specs.Took.{HasRoom, IsFull as IsFullSite}
+use Rattle.site_memory.specs.declared.machine.MemSite.{MemSite}
 use Rattle.mirrored_nets.specs.Seen.{Seen}
 use Rattle.at_model.specs.Views.{deliver_to, up}
 use Rattle.at_model.specs.World.{WorldEvent, node_of, nth}
@@ -18,10 +21,12 @@ use Rattle.replay_cmd.specs.ReportOf.{armed_at, nodes_of, receiver_in}
 use Rattle.schedules.specs.declared.line.Line.{Line}
 use Rattle.world_laws.specs.Events.{event_of}
 use Rattle.world_laws.specs.declared.event.WorldEvent.{WorldEvent as Given}
-use Rattle.net_plays.specs.PlayedLines.{Delivers, DeliversWhere, Takes, TakesAll, marked}
+use Rattle.net_plays.specs.PlayedLines.{Brings, Delivers, DeliversWhere, Takes, TakesAll, marked}
 use Rattle.net_plays.specs.Plays.{Happens, IsBegun, IsOpening, Play, ups_from}
-use Rattle.net_plays.specs.Stops.{HasNoReport, Stops, StopsAmong, StopsBegin, StopsComing, StopsDelivery, StopsFlush, StopsIn, StopsInLines, StopsInjection, StopsRest, Why}
+use Rattle.net_plays.specs.Stops.{HasNoReport, HasNoRoom, Stops, StopsAmong, StopsBegin, StopsComing, StopsDelivery, StopsFlush, StopsIn, StopsInLines, StopsInjection, StopsRest, Why}
 use Rattle.net_plays.specs.Stops.Why.{HasMany, IsFull}
+use Rattle.net_plays.specs.declared.play_error.PlayError.{PlayError}
+use Rattle.net_plays.specs.declared.play_error.PlayError.TheVariants.{Full}
 use Rattle.net_plays.proofs.PlayedEvents.{ups_more}
 
 pub stops_delivery : (why : Why) (k node : ℕ) (asked : WorldEvent) (p m : Play) → Some (Some node) ≡ option_map receiver_in (nth k p.world.posted) → m ≡ marked k p → asked ≡ deliver_to node k
@@ -41,6 +46,59 @@ stops_injection why bytes n status waits asked p draws same stops =
 
 pub no_room : (armed : Option Known) (asked : WorldEvent) (raw : List ℕ) (p r : Play) → p ≡ r → IsFullAt (node_of asked) p.net.hosts → Stops IsFull armed asked raw r
 no_room armed asked raw p r same full = subst (λ x. Stops IsFull armed asked raw x) same (record { full = full })
+
+-- where a journal has room it isn't full
+
+roomy : (s : MemSite) → HasRoom s → IsFullSite s → ⊥
+roomy s room (inl first) = omega (arith, room.first, first)
+roomy s room (inr second) = omega (arith, room.second, second)
+
+never_full : (node : ℕ) (asked : WorldEvent) (p : Play) → node ≡ node_of asked → HasRoomAt node p.net.hosts → HasNoRoom asked p → ⊥
+never_full node asked p same room none = by none.full
+  where
+    by : IsFullAt (node_of asked) p.net.hosts → ⊥
+    by (h, here, full) = roomy h.site (room h (subst (λ k. nth k p.net.hosts ≡ Some h) (sym same) here)) full
+
+pub full_here : (node : ℕ) (armed : Option Known) (asked : WorldEvent) (raw : List ℕ) (p : Play) → node ≡ node_of asked → IsFullAt node p.net.hosts → Stops IsFull armed asked raw p
+full_here node armed asked raw p same full = record { full = subst (λ k. IsFullAt k p.net.hosts) same full }
+
+pub room_here : (node : ℕ) (armed : Option Known) (asked : WorldEvent) (raw : List ℕ) (p : Play) (r : Result Play PlayError) → node ≡ node_of asked → HasRoomAt node p.net.hosts → Stops IsFull armed asked raw p
+    → r ≡ Err Full
+room_here node armed asked raw p r same room stops = absurd (never_full node asked p same room stops)
+
+-- the node that a message goes to, and whether there is one
+
+abbrev receiver_or : Option (Option ℕ) → ℕ
+receiver_or (Some (Some n)) = n
+receiver_or (Some None) = 0
+receiver_or None = 0
+
+abbrev there_or : Option (Option ℕ) → ℕ
+there_or (Some (Some n)) = 1
+there_or (Some None) = 0
+there_or None = 0
+
+pub delivery_full : (k node : ℕ) (p : Play) → Some (Some node) ≡ option_map receiver_in (nth k p.world.posted) → IsFullAt node p.net.hosts → StopsDelivery IsFull k p
+delivery_full k node p received full = record { node = node; received = sym received; stops = record { full = full } }
+
+pub delivery_room : (k node : ℕ) (p : Play) (r : Result Play PlayError) → Some (Some node) ≡ option_map receiver_in (nth k p.world.posted) → HasRoomAt node p.net.hosts → StopsDelivery IsFull k p → r ≡ Err Full
+delivery_room k node p r received room s = absurd (never_full node (deliver_to s.node k) (marked k p) (ap receiver_or (received ∙ s.received)) room s.stops)
+
+pub delivery_nobody : (k : ℕ) (p : Play) (r : Result Play PlayError) → Some None ≡ option_map receiver_in (nth k p.world.posted) → StopsDelivery IsFull k p → r ≡ Err Full
+delivery_nobody k p r received s = let no : 0 ≡ 1 = ap there_or (received ∙ s.received) in absurd (omega (arith, no))
+
+pub delivery_unknown : (k : ℕ) (p : Play) (r : Result Play PlayError) → None ≡ option_map receiver_in (nth k p.world.posted) → StopsDelivery IsFull k p → r ≡ Err Full
+delivery_unknown k p r received s = let no : 0 ≡ 1 = ap there_or (received ∙ s.received) in absurd (omega (arith, no))
+
+pub err_so : {P Q : Type 0} (r : Result Play PlayError) (x : PlayError) → (P → Q) → IfErr r (λ e. e ≡ x → P) → IfErr r (λ e. e ≡ x → Q)
+err_so (Err e) x f h = λ same. f (h same)
+err_so (Ok q) x f h = h
+
+pub brings_refused : (bytes : List ℕ) (n status : ℕ) (waits : Bool) (armed : Option Known) (asked : WorldEvent) (p : Play) (r : Result Play PlayError) → Draws bytes (drawns.Refused status waits)
+    → armed ≡ armed_at n p.armed → asked ≡ raw_at n → IfOk r (Happens armed asked bytes status p) → IfOk r (Brings bytes n p)
+brings_refused bytes n status waits armed asked p (Err e) draws same is h = h
+brings_refused bytes n status waits armed asked p (Ok q) draws same is h =
+    (drawns.Refused status waits, draws, subst (λ a. Happens a (raw_at n) bytes status p q) same (subst (λ e. Happens armed e bytes status p q) is h))
 
 pub too_many : (armed : Option Known) (asked : WorldEvent) (raw : List ℕ) (p r : Play) (event : WorldEvent) (down : Bool) (calls : ℕ) (net : Seen) → p ≡ r
     → Happened p.count p.world (call_of armed) asked raw p.net net event down calls → 4294967295 < length (p.events ++ events_by down event) → Stops HasMany armed asked raw r

@@ -1,6 +1,6 @@
 //! Messages that go to their nodes.
 
-ghost use Rattle.std.specs.Prelude.{◌≡◌, [], IfErr, IfOk};
+ghost use Rattle.std.specs.Prelude.{◌≡◌, [], Err, IfErr, IfOk};
 ghost use Rattle.net_plays.specs.Asks.{CanAsk};
 ghost use Rattle.net_plays.specs.PlayedLines.{Comes, Delivers, Flushes};
 ghost use Rattle.net_plays.specs.Plays.{HasBegun};
@@ -24,22 +24,27 @@ impl Play {
         ensures done { IfOk result (Comes (event_of asked.now) self) }
         ensures full { IfErr result (λ e. e ≡ Full → StopsComing IsFull (event_of asked.now) self) }
         ensures many { IfErr result (λ e. e ≡ TooManyEvents → StopsComing HasMany (event_of asked.now) self) }
+        ensures room { StopsComing IsFull (event_of asked.now) self → result ≡ Err Full }
     {
         let armed = self.armed_at(asked.node());
         self.happen(alloc, armed, asked, &[], 0)
     }
 
     /// A message goes to its node, whether it did before or not.
-    #[tactic(auto, using(crate::proofs::StoppedPlays::stops_delivery, crate::proofs::AskedLines::delivery_asked, crate::proofs::AskedLines::marked_begun))]
+    #[tactic(auto, using(crate::proofs::StoppedPlays::stops_delivery, crate::proofs::StoppedPlays::delivery_full, crate::proofs::StoppedPlays::delivery_room, crate::proofs::StoppedPlays::delivery_nobody, crate::proofs::StoppedPlays::delivery_unknown, crate::proofs::AskedLines::delivery_asked, crate::proofs::AskedLines::marked_begun))]
     pub(crate) fn deliver(self, alloc: Global, number: u64) -> Result<Play, PlayError>
         requires { HasBegun self }
         ensures done { IfOk result (Delivers number self) }
         ensures full { IfErr result (λ e. e ≡ Full → StopsDelivery IsFull number self) }
         ensures many { IfErr result (λ e. e ≡ TooManyEvents → StopsDelivery HasMany number self) }
+        ensures room { StopsDelivery IsFull number self → result ≡ Err Full }
     {
         self.is_played();
         match self.receiver(number) {
             Some(Some(node)) => {
+                if !self.has_room(node) {
+                    return Err(PlayError::Full);
+                }
                 let marked = self.mark(number)?;
                 marked.come(alloc, &turn(alloc, node, Input::Deliver(number)))
             }

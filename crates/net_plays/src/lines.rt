@@ -1,6 +1,6 @@
 //! The lines of a schedule, taken one after another.
 
-ghost use Rattle.std.specs.Prelude.{◌≡◌, IfErr, IfOk};
+ghost use Rattle.std.specs.Prelude.{◌≡◌, Err, IfErr, IfOk};
 ghost use Rattle.armed_calls.specs.declared.fault.Fault.TheVariants as faults;
 ghost use Rattle.at_model.specs.Views.{request, tick_at, up};
 ghost use Rattle.net_plays.specs.PlayedLines.{Brings, Comes, Takes, TakesAll};
@@ -54,6 +54,7 @@ fn ask(play: Play, alloc: Global, node: u8, local: Local) -> Result<Play, PlayEr
     ensures done { IfOk result (Comes (request node local) play) }
     ensures full { IfErr result (λ e. e ≡ Full → StopsComing IsFull (request node local) play) }
     ensures many { IfErr result (λ e. e ≡ TooManyEvents → StopsComing HasMany (request node local) play) }
+    ensures room { StopsComing IsFull (request node local) play → result ≡ Err Full }
 {
     play.come(alloc, &asking(alloc, node, local))
 }
@@ -66,6 +67,7 @@ fn tick(play: Play, alloc: Global, node: u8, ms: u32) -> Result<Play, PlayError>
     ensures done { IfOk result (Comes (tick_at node ms) play) }
     ensures full { IfErr result (λ e. e ≡ Full → StopsComing IsFull (tick_at node ms) play) }
     ensures many { IfErr result (λ e. e ≡ TooManyEvents → StopsComing HasMany (tick_at node ms) play) }
+    ensures room { StopsComing IsFull (tick_at node ms) play → result ≡ Err Full }
 {
     play.come(alloc, &turn(alloc, node, Input::Tick(ms)))
 }
@@ -78,6 +80,7 @@ fn come_up(play: Play, alloc: Global, node: u8) -> Result<Play, PlayError>
     ensures done { IfOk result (Comes (up node) play) }
     ensures full { IfErr result (λ e. e ≡ Full → StopsComing IsFull (up node) play) }
     ensures many { IfErr result (λ e. e ≡ TooManyEvents → StopsComing HasMany (up node) play) }
+    ensures room { StopsComing IsFull (up node) play → result ≡ Err Full }
 {
     play.come(alloc, &coming_up(node))
 }

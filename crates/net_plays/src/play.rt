@@ -1,7 +1,8 @@
 //! A play on its way.
 
-ghost use Rattle.std.specs.Prelude.{◌≡◌, ◌≤◌, ◌<◌, ◌+◌, ◌++◌, IfErr, IfOk, Some, length, map, option_map};
+ghost use Rattle.std.specs.Prelude.{◌≡◌, ◌≤◌, ◌<◌, ◌+◌, ◌++◌, Err, IfErr, IfOk, Some, false, length, map, option_copied, option_map, true};
 ghost use Rattle.at_model.specs.World.{nth};
+ghost use Rattle.mirrored_nets.specs.Rooms.{HasRoomAt, IsFullAt};
 ghost use Rattle.model_laws.specs.Settlement.{settle};
 ghost use Rattle.net_plays.specs.Asks.{CanAsk};
 ghost use Rattle.net_plays.specs.Behind.{IsArmedBehind};
@@ -21,6 +22,8 @@ use crate::play_error::PlayError;
 use armed_calls::fault::{Armed, Fault};
 use asked_nets::fault::Fault as Unmet;
 use asked_nets::net::{Net, Taken};
+use memory_net::host::Host;
+use mirrored_nets::host::has_room;
 use replay_cmd::arms::{Arms, still_armed};
 use replay_cmd::deliveries::Delivered;
 use replay_cmd::endings::push_ended;
@@ -91,6 +94,16 @@ fn fault_of(armed: Option<Armed>) -> Option<Fault>
     Some(armed?.fault)
 }
 
+/// The host of a node.
+fn host_of(hosts: &[Host], number: u8) -> Option<&Host>
+    ensures { option_copied result ≡ nth number hosts.now }
+{
+    if number == 0 {
+        return None;
+    }
+    hosts.get(number as usize - 1)
+}
+
 impl Play {
     /// So many nodes, each of which is down.
     pub(crate) fn opening(alloc: Global, count: u8) -> Result<Play, AllocError>
@@ -106,9 +119,43 @@ impl Play {
         })
     }
 
+    /// Whether the journal of a node has room for another record.
+    pub(crate) fn has_room(&self, node: u8) -> bool
+        ensures room { result ≡ true → HasRoomAt node self.now.net.hosts }
+        ensures full { result ≡ false → IsFullAt node self.now.net.hosts }
+    {
+        match host_of(self.net.hosts(), node) {
+            Some(host) => has_room(host.site()),
+            None => true,
+        }
+    }
+
     /// What is asked for is done by its node, of whose machine this call is armed. It brings these bytes where they are no message, and those draw
     /// this status.
+    #[tactic(auto, using(crate::proofs::StoppedPlays::full_here, crate::proofs::StoppedPlays::room_here))]
     pub(crate) fn happen(
+        self,
+        alloc: Global,
+        armed: Option<Armed>,
+        asked: &WorldEvent,
+        raw: &[u8],
+        drawn: u16,
+    ) -> Result<Play, PlayError>
+        requires can { CanAsk self.count self.world (event_of asked.now) raw.now }
+        requires behind { IsArmedBehind armed self.events }
+        ensures done { IfOk result (Happens armed (event_of asked.now) raw.now drawn self) }
+        ensures full { IfErr result (λ e. e ≡ Full → Stops IsFull armed (event_of asked.now) raw.now self) }
+        ensures many { IfErr result (λ e. e ≡ TooManyEvents → Stops HasMany armed (event_of asked.now) raw.now self) }
+        ensures room { Stops IsFull armed (event_of asked.now) raw.now self → result ≡ Err Full }
+    {
+        if !self.has_room(asked.node()) {
+            return Err(PlayError::Full);
+        }
+        self.done(alloc, armed, asked, raw, drawn)
+    }
+
+    /// The same, without a look at the journal first.
+    fn done(
         self,
         alloc: Global,
         armed: Option<Armed>,
