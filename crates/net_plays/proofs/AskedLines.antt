@@ -12,7 +12,7 @@ use Rattle.at_base.specs.declared.event.Local.TheVariants as locals
 use Rattle.at_base.specs.declared.notice.Kind.{Kind}
 use Rattle.at_base.specs.declared.notice.Vote.{Vote}
 use Rattle.at_model.specs.Views.{deliver_to, tick_at, up}
-use Rattle.at_model.specs.World.{World, WorldEvent, Ask, Crash, example_base, nth, world_step}
+use Rattle.at_model.specs.World.{WorldEvent, Ask, Crash, example_base, nth, world_step}
 use Rattle.mirrored_nets.specs.ExampleRequests.{IsBaseOfEight, IsOfEight}
 use Rattle.model_laws.specs.Settlement.{settle}
 use Rattle.raw_requests.specs.Draws.{Draws}

@@ -1,10 +1,10 @@
 -- What can be asked of a play can be asked of its nodes.
-use Rattle.std.specs.Prelude.{ℕ, List, [], ◌∷◌, ◌+◌, ◌-◌, ◌≡◌, ◌≤◌, ◌<◌, ◌^◌, Bool, true, false, Option, None, Some, if◌then◌else◌, length, map, max, nat_eq, unwrap_or}
+use Rattle.std.specs.Prelude.{ℕ, List, [], ◌∷◌, ◌-◌, ◌≡◌, ◌≤◌, Bool, true, false, Option, Some, if◌then◌else◌, length, map, nat_eq, unwrap_or}
 use Rattle.std.specs.List.{AllByRecursion}
 use Rattle.std.proofs.Common.{ap, arith, refl, subst, sym, ◌∙◌}
 use Rattle.std.proofs.lemmas.Bool.{eqb-false}
 use Rattle.asked_nets.specs.Happened.{HasIncarnations, MayAskOf}
-use Rattle.at_model.specs.World.{Ask, Crash, Deliver, Input, Node, Posted, Raw, Tick, Turn, Up, World, WorldEvent, node_of, nth}
+use Rattle.at_model.specs.World.{Ask, Crash, Deliver, Input, Posted, Raw, Tick, Turn, Up, World, WorldEvent, node_of, nth}
 use Rattle.memory_net.specs.Mails.{Mail, mail_of}
 use Rattle.memory_net.specs.ShortLetters.{LettersAreShort}
 use Rattle.memory_net.specs.Stands.{AreMailsOf, IsMailOf}
@@ -14,7 +14,7 @@ use Rattle.mirrored_nets.specs.Seen.{Seen}
 use Rattle.settling.proofs.Places.{all_nth}
 use Rattle.world_laws.specs.Events.{ms_of}
 use Rattle.world_laws.specs.Runs.{IsNode}
-use Rattle.net_plays.specs.Asks.{CanAsk, CanAskOf}
+use Rattle.net_plays.specs.Asks.{CanAskOf}
 use Rattle.net_plays.specs.Behind.{AsksAreMet, IsBehind}
 use Rattle.net_plays.specs.Incarnations.{IsEarly}
 

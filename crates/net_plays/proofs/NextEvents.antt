@@ -19,7 +19,7 @@ use Rattle.world_laws.specs.Moves.{ChangesByMoves, seen}
 use Rattle.world_laws.specs.Runs.{IsFit}
 use Rattle.world_laws.proofs.RunNodes.{fit_after}
 use Rattle.net_plays.specs.Asks.{CanAskOf}
-use Rattle.net_plays.specs.Behind.{IsArmedBehind, IsBehind, PlaysGoOn}
+use Rattle.net_plays.specs.Behind.{IsArmedBehind, PlaysGoOn}
 use Rattle.net_plays.specs.Incarnations.{IsEarly, IsUnstopped}
 use Rattle.net_plays.proofs.EarlyNodes.{early_on}
 use Rattle.net_plays.proofs.PlayedRuns.{run_behind}

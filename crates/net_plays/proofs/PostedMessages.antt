@@ -1,5 +1,5 @@
 -- A message of a run that has a receiver can go to it.
-use Rattle.std.proofs.Common.{ℕ, ◌-◌, ◌≤◌, ◌≡◌, refl, List, [], ◌∷◌, ◌∙◌, sym, subst, arith, inl, inr, Bool, true, false}
+use Rattle.std.proofs.Common.{ℕ, ◌-◌, ◌≤◌, ◌≡◌, refl, List, [], ◌∷◌, ◌∙◌, sym, arith, inl, inr, Bool, true, false}
 use Rattle.std.specs.Prelude.{Option, Some, None, nat_eq, option_map, if◌then◌else◌}
 use Rattle.at_base.specs.declared.epr.Epr.{Epr}
 use Rattle.at_base.specs.declared.target.Target.{Target}

@@ -6,7 +6,6 @@ use Rattle.armed_calls.specs.declared.fault.Armed.{Armed as Known}
 use Rattle.asked_nets.specs.ArmedCalls.{call_of}
 use Rattle.asked_nets.specs.Behind.{events_by}
 use Rattle.asked_nets.specs.Happened.{Happened}
-use Rattle.memory_net.specs.declared.host.Host.{Host}
 use Rattle.mirrored_nets.specs.Rooms.{HasRoomAt, IsFullAt}
 use Rattle.mirrored_nets.specs.Took.{HasRoom, IsFull as IsFullSite}
 use Rattle.site_memory.specs.declared.machine.MemSite.{MemSite}

@@ -6,7 +6,7 @@ use Rattle.armed_calls.specs.declared.fault.Fault.{Fault}
 use Rattle.asked_nets.specs.Happened.{Happened}
 use Rattle.asked_nets.specs.Behind.{events_by, world_behind}
 use Rattle.at_model.specs.Views.{up}
-use Rattle.at_model.specs.World.{World, WorldEvent, Turn, Ask, Crash, Up, example_hosts, node_of, opening, run_of}
+use Rattle.at_model.specs.World.{World, WorldEvent, Turn, Ask, Crash, Up, example_hosts, node_of, opening}
 use Rattle.asked_nets.specs.ArmedCalls.{call_of}
 use Rattle.mirrored_nets.specs.NetSteps.{IsUnstarted}
 use Rattle.mirrored_nets.specs.Seen.{Seen}

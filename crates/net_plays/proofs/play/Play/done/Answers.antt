@@ -2,7 +2,6 @@ use Rattle.std.specs.Prelude.{◌≤◌, map}
 use Rattle.std.proofs.Common.{refl, subst}
 use Rattle.world_laws.specs.Events.{event_of}
 use Rattle.world_laws.specs.Runs.{world_of}
-use Rattle.asked_nets.specs.ArmedCalls.{call_of}
 use Rattle.net_plays.proofs.PlayedEvents.{behind_inside, can_inside, few_events, goes_on, happens}
 use Rattle.net_plays.proofs.StoppedPlays.{no_room, too_many}
 use Rattle.net_plays.proofs.play.Play.done.Goals as goal
