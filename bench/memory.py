@@ -706,7 +706,7 @@ class Lasting(Served):
     BEHIND, AGAIN = 5.2, 3
 
     def __init__(self, memory, room, listeners, asked, nth, whole=None):
-        self.listeners, self.whole, self.later, self.come_next = listeners, whole, [], False
+        self.listeners, self.whole, self.later, self.come_next, self.lost = listeners, whole, [], False, 0
         super().__init__(memory, room, listeners, asked, nth)
         self.posts = self.first
 
