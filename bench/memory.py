@@ -1,5 +1,5 @@
 #!/usr/bin/env python3
-"""Refuses memory to atx, one growth at a time, and looks what it says then.
+"""Refuses memory to atx, one growth at a time, and looks what it does then.
 
     bench/memory.py [--names] [COMMAND..]
 
@@ -20,6 +20,11 @@ A growth of the machine itself, of its connections and posts, is a failed call o
     8      the listener failed, or the post of `tick`, which may have come through: as 9, with this status
     closed a connection was closed without an answer, and the node was asked again: as 503
     unsent all was as with memory, but one post, which failed and is as a lost message
+
+Three commands that begin with `for a while` have all growths refused from one on until the node waits, for each growth of one turn. Then a
+turn posts the first of its posts, and may lose the others: each is to come again at the first turn 5 seconds later, or where the request
+that it answered is asked once more; and the node's status counts it as lost. Those growths are `unsent`, and it is said how many posts
+were missing where there was more than one.
 
 Anything else is wrong: another status, half a line, a record or a post that isn't there or that is there twice. Each is printed, and the
 script ends with status 1. (Of what a node says on standard error it is looked whether its lines are whole: a log may lack some.)
@@ -60,14 +65,16 @@ FRAMES = 62
 NAMES = 6
 LIBRARIES = ("rattle_", "libc::heap::", "std_heap::", "std_alloc::", "std_collections::", "std::", "core::")
 
-# Counts what the program itself asks for, and refuses one of these. The file's numbers: how many there were, which to refuse, and where
-# in the program the calls stood that led to the refused one, innermost first.
+# Counts what the program itself asks for, and refuses one of these. The file's numbers: how many there were, which to refuse, whether all
+# behind it are refused too until the program calls poll, and where in the program the calls stood that led to the refused one, innermost
+# first.
 REFUSING = r"""
 #define _GNU_SOURCE
 #include <dlfcn.h>
 #include <errno.h>
 #include <fcntl.h>
 #include <link.h>
+#include <poll.h>
 #include <stddef.h>
 #include <stdint.h>
 #include <stdlib.h>
@@ -78,6 +85,8 @@ extern void *__libc_malloc(size_t), *__libc_calloc(size_t, size_t), *__libc_real
 extern void *__libc_stack_end;
 static uintptr_t base, from, to;
 static volatile uint64_t *numbers;
+static int lasts;
+static int (*waits)(struct pollfd *, nfds_t, int);
 
 static int find(struct dl_phdr_info *it, size_t size, void *unused) {
     base = it->dlpi_addr;
@@ -93,7 +102,8 @@ static int find(struct dl_phdr_info *it, size_t size, void *unused) {
 __attribute__((constructor)) static void begin(void) {
     const char *name = getenv("GROWTHS");
     int file = name ? open(name, O_RDWR) : -1;
-    void *shared = file < 0 ? MAP_FAILED : mmap(0, 8 * (2 + FRAMES), PROT_READ | PROT_WRITE, MAP_SHARED, file, 0);
+    void *shared = file < 0 ? MAP_FAILED : mmap(0, 8 * (3 + FRAMES), PROT_READ | PROT_WRITE, MAP_SHARED, file, 0);
+    waits = (int (*)(struct pollfd *, nfds_t, int))dlsym(RTLD_NEXT, "poll");
     dl_iterate_phdr(find, 0);
     if (shared != MAP_FAILED) numbers = shared;
 }
@@ -103,7 +113,7 @@ static int is_program(uintptr_t place) { return place >= from && place < to; }
 /* A frame is the caller's frame and the place to return to; each lies on the stack above the one that it calls. */
 static void note(uintptr_t *frame) {
     for (int at = 0; at < FRAMES && is_program(frame[1]); at++) {
-        numbers[2 + at] = frame[1] - base;
+        numbers[3 + at] = frame[1] - base;
         if (frame[0] <= (uintptr_t)frame || frame[0] + 2 * sizeof *frame > (uintptr_t)__libc_stack_end) return;
         frame = (uintptr_t *)frame[0];
     }
@@ -111,10 +121,17 @@ static void note(uintptr_t *frame) {
 
 static int refused(uintptr_t *frame) {
     if (!numbers || !is_program(frame[1])) return 0;
-    if (++numbers[0] != numbers[1]) return 0;
-    note(frame);
+    if (++numbers[0] == numbers[1]) {
+        note(frame);
+        lasts = numbers[2];
+    } else if (!lasts) return 0;
     errno = ENOMEM;
     return 1;
+}
+
+int poll(struct pollfd *asks, nfds_t count, int millis) {
+    lasts = 0;
+    return waits(asks, count, millis);
 }
 
 #define FRAME __builtin_frame_address(0)
@@ -135,6 +152,8 @@ PLAIN = "nodes 3\nbegin 1 2 60000\nflush 99\nwork 1 1-1 3 d prepared\nflush 99\n
 MANY = ("nodes 4\nbegin 1 2 60000\nflush 99\ninterpose 1 1-1 3\nflush 99\nwork 1 1-1 4 v readonly\nflush 99\nwork 1 1-2 4 d prepared\nflush 99\n"
         "commit 1 1-1\nflush 99\n")
 BROUGHT = "".join(f"inject 2 {it.hex()}\n" for it in (b"GET / HTTP/1.1\r\nHost: a\r\n\r\n", b"POST /work HTTP/1.1\r\nHost: a\r\nContent-Length: 3\r\n\r\n<a>"))
+TWO = ("nodes 4\nbegin 1 2 60000\nflush 99\nwork 1 1-1 3 d prepared\nflush 99\nwork 1 1-1 4 d prepared\nflush 99\ncommit 1 1-1\n"
+       "flush 99\n")
 FAULTS = PLAIN + "fail 3 2\ntick 3 5000\ncrash 3\nup 3\ntick 3 5000\nstop 2 3 fill 1\n" + BROUGHT
 WORK = (b'<s:Envelope xmlns:s="http://schemas.xmlsoap.org/soap/envelope/" xmlns:a="http://www.w3.org/2005/08/addressing" '
         b'xmlns:c="http://docs.oasis-open.org/ws-tx/wscoor/2006/06" xmlns:w="http://example.org/atx/work/1"><s:Header>'
@@ -158,23 +177,23 @@ class Memory:
         subprocess.run([os.environ.get("CC", "cc"), *flags, "-o", self.library, source, "-ldl"], check=True)
         self.numbers = os.path.join(room, "numbers")
 
-    def start(self, nth, words, **how):
-        """The program, to which its n-th growth is refused; none where n is 0."""
+    def start(self, nth, words, lasts=False, **how):
+        """The program, to which its n-th growth is refused, and perhaps all behind it until it waits; none where n is 0."""
         with open(self.numbers, "wb") as file:
-            file.write(struct.pack(f"={2 + FRAMES}Q", 0, nth, *[0] * FRAMES))
+            file.write(struct.pack(f"={3 + FRAMES}Q", 0, nth, lasts, *[0] * FRAMES))
         env = {**os.environ, "LD_PRELOAD": self.library, "GROWTHS": self.numbers}
         return subprocess.Popen([ATX, *words], env=env, stderr=subprocess.PIPE, **how)
 
     def read(self):
         with open(self.numbers, "rb") as file:
-            return struct.unpack(f"={2 + FRAMES}Q", file.read())
+            return struct.unpack(f"={3 + FRAMES}Q", file.read())
 
     def growths(self):
         return self.read()[0]
 
     def where(self):
         """The functions that led to the growth that was refused, innermost first."""
-        found = (named(place) for place in self.read()[2:] if place)
+        found = (named(place) for place in self.read()[3:] if place)
         return tuple(it for it in found if not it.startswith(LIBRARIES))[:NAMES]
 
 
@@ -268,7 +287,8 @@ class Came:
     """What came of the growths that were refused, how often, and what is to be told of single ones."""
 
     def __init__(self, names):
-        self.names, self.counts, self.places, self.wrong = names, collections.Counter(), collections.Counter(), []
+        self.names, self.wrong = names, []
+        self.counts, self.lost, self.places = collections.Counter(), collections.Counter(), collections.Counter()
 
     def refuse(self, memory, growths, run, judge):
         """Refuses each of these growths, as far as there are so many."""
@@ -281,14 +301,17 @@ class Came:
             except Wrong as fault:
                 kind = "wrong"
                 self.wrong.append(f"    growth {nth}: {fault}")
+            kind, _, lost = kind.partition(" ")
             self.counts[kind] += 1
+            self.lost[int(lost or 1)] += kind == "unsent"
             if self.names and kind not in ASKED_FOR:
                 self.places[kind, memory.where()] += 1
 
     def lines(self, name):
         row = f"{name:<28}{shown([sum(self.counts.values()), *(self.counts[kind] for kind in KINDS)])}"
+        lost = [f"    {count} times {posts} posts, which came later" for posts, count in sorted(self.lost.items()) if posts > 1 and count]
         places = [f"    {count} {kind}: {' < '.join(where)}" for (kind, where), count in self.places.items()]
-        return "\n".join([row, *places, *self.wrong])
+        return "\n".join([row, *lost, *places, *self.wrong])
 
 
 def has_said(said, whole):
@@ -464,7 +487,7 @@ class Served:
     def run(self, memory, room, asked, nth, looks):
         with begun(memory, room, asked, nth, asked.words(self.journal, asked.turns)) as (it, out):
             if is_up(it, out):
-                self.ask(asked, looks)
+                self.ask(asked.requests, looks)
                 self.tick(it)
             self.said = said(it)
         self.status, self.out = it.returncode, printed(out)
@@ -479,8 +502,8 @@ class Served:
             self.busy, self.closed = self.busy + was_busy, self.closed + (not was_busy)
         return answer
 
-    def ask(self, asked, looks):
-        for data in asked.requests:
+    def ask(self, requests, looks=False):
+        for data in requests:
             answer = self.insist(data)
             if not answer:
                 return
@@ -507,12 +530,12 @@ class Served:
 class begun:
     """A program that serves, and the file to which it prints; it is ended in any case."""
 
-    def __init__(self, memory, room, asked, nth, words):
+    def __init__(self, memory, room, asked, nth, words, lasts=False):
         self.out, given = os.path.join(room, "out"), os.path.join(room, "given")
         with open(given, "wb") as file:
             file.write(asked.given())
         with open(self.out, "wb") as told, open(given, "rb") as lines:
-            self.it = memory.start(nth, words, stdin=lines, stdout=told)
+            self.it = memory.start(nth, words, lasts, stdin=lines, stdout=told)
 
     def __enter__(self):
         return self.it, self.out
@@ -610,6 +633,22 @@ def serving(memory, room, came, asked, anew=False):
             it.close()
 
 
+def lasting(memory, room, came, asked):
+    """A node that serves, to which all growths of the turn of its last request are refused from one on until it waits."""
+    listeners = listening(asked.node)
+    try:
+        whole = Lasting(memory, room, listeners, asked, 0)
+        again = Lasting(memory, room, listeners, asked, 0, whole)
+        if whole.status != 0 or len(whole.answers) != len(asked.requests) or compared(whole, again, asked) != "none":
+            raise Wrong(f"with memory: status {whole.status}, {whole.out!r}, {len(whole.answers)} answers, {whole.said!r}")
+        growths = range(whole.from_here + 1, whole.to_here + 1)
+        run = functools.partial(Lasting, memory, room, listeners, asked, whole=whole)
+        came.refuse(memory, growths, run, lambda it: lost_and_again(whole, it, asked))
+    finally:
+        for it in listeners:
+            it.close()
+
+
 def left_by(memory, room, role, node, asked):
     """The journal that a node leaves that was asked this."""
     listeners = listening(node)
@@ -660,6 +699,80 @@ def timing(memory, room, came, asked):
             it.close()
 
 
+class Lasting(Served):
+    """The same of a node to which all growths are refused from one on until it waits: what it posted by then, and what it posts of the rest
+    at the next turn, at one behind 5 seconds, or where each request comes once more."""
+
+    BEHIND, AGAIN = 5.2, 3
+
+    def __init__(self, memory, room, listeners, asked, nth, whole=None):
+        self.listeners, self.whole, self.later, self.come_next, self.lost = listeners, whole, [], False, 0
+        super().__init__(memory, room, listeners, asked, nth)
+        self.posts = self.first
+
+    def run(self, memory, room, asked, nth, looks):
+        turns = asked.turns + self.AGAIN + len(asked.requests)
+        with begun(memory, room, asked, nth, asked.words(self.journal, turns), lasts=True) as (it, out):
+            self.first = []
+            if is_up(it, out):
+                *before, last = asked.requests
+                self.ask(before)
+                time.sleep(0.1)
+                self.from_here = memory.growths()
+                self.ask([last])
+                time.sleep(0.1)
+                self.to_here = memory.growths()
+                self.first = taken(self.listeners)
+                self.files = both(self.journal)
+                if self.whole and self.missing() and it.poll() is None:
+                    self.go_on(asked)
+                self.tick(it)
+            self.said = said(it)
+        self.status, self.out = it.returncode, printed(out)
+
+    def tick(self, it):
+        for _ in range(64):
+            if it.poll() is not None:
+                return
+            asks(self.port, TICK)
+
+    def missing(self):
+        return list((collections.Counter(self.whole.first) - collections.Counter(self.first)).elements())
+
+    def go_on(self, asked):
+        page = asks(self.port, b"GET /status HTTP/1.1\r\nHost: 127.0.0.1:%d\r\n\r\n" % self.port)
+        found = re.search(rb'"answers_and_posts_lost": *(\d+)', page)
+        self.lost = int(found[1]) if found else -1
+        self.come_next = self.has_asked([TICK])
+        if not self.come_next:
+            time.sleep(self.BEHIND)
+            self.has_asked([TICK]) or self.has_asked(asked.requests)
+
+    def has_asked(self, requests):
+        """Asks this, and whether each post that was missing has come then."""
+        for data in requests:
+            asks(self.port, data)
+        self.later += taken(self.listeners)
+        return self.come_again()
+
+    def come_again(self):
+        """Whether each that was missing has come by now."""
+        return not collections.Counter(self.missing()) - collections.Counter(self.later)
+
+
+def lost_and_again(whole, it, asked):
+    """What came of growths that were refused until the node waited."""
+    if it.status == 0 and (it.answers, it.out) == (whole.answers, whole.out) and it.missing():
+        if kept(it.files) != kept(whole.files) or collections.Counter(it.first) - collections.Counter(whole.first):
+            raise Wrong(f"{len(kept(it.files))} records, {len(it.first)} of {len(whole.first)} posts")
+        if not it.come_again():
+            raise Wrong(f"{len(it.missing())} posts are missing, and {len(it.later)} came later")
+        if it.lost != (0 if it.come_next else len(it.missing())):
+            raise Wrong(f"{len(it.missing())} posts are missing, and {it.lost} were counted as lost")
+        return "none" if it.come_next else f"unsent {len(it.missing())}"
+    return compared(whole, it, asked)
+
+
 def framed(*bodies):
     return b"".join(b"\1" + len(body).to_bytes(4, "big") + body for body in bodies) + b"\0"
 
@@ -676,6 +789,11 @@ def decided(number, addresses):
 
 def waiting():
     return decided(1, [f"{url(3)}/p/d/1-1".encode()])
+
+
+def both_wait():
+    """A journal with a decision for two participants."""
+    return framed(START, decided(1, [f"{url(node)}/p/d/1-1".encode() for node in (3, 4)]))
 
 
 def old():
@@ -750,6 +868,14 @@ def commands(memory, room):
         """A coordinator that comes up on a journal with a decision for one participant."""
         return lambda came: serving(memory, room, came, Asked("coordinator", 2, [TICK, TICK, messages(PLAIN)[2][-1]], (file, b"")), anew=True)
 
+    def while_out(made):
+        """A coordinator to which memory is refused for a while."""
+        return lambda came: lasting(memory, room, came, made())
+
+    def two(count):
+        """The first requests of a coordinator of two participants."""
+        return Asked("coordinator", 2, messages(TWO)[2][:count], options=["--status"])
+
     def timer(came):
         timing(memory, room, came, Asked("coordinator", 2, messages("nodes 2\nbegin 1 2 700\nflush 99\n")[2]))
 
@@ -784,6 +910,9 @@ def commands(memory, room):
         "coordinator, interposed": node("coordinator", 3, MANY, b"sub 1-1 committed\n"),
         "coordinator, its own timer": timer,
         "initiator": node("initiator", 1, PLAIN, b"told 1-1 committed\n"),
+        "for a while: asked to commit": while_out(lambda: two(5)),
+        "for a while: both voted": while_out(lambda: two(7)),
+        "for a while: up again": while_out(lambda: Asked("coordinator", 2, [TICK], (both_wait(), b""), options=["--status"])),
     }
 
 
